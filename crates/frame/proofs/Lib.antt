@@ -1,0 +1,4 @@
+pub mod Grouping
+pub mod Listing
+pub mod Numbers
+pub mod Scans

@@ -1,0 +1,17 @@
+// The three messages of the protocol, read from octets and written back without loss. No heap.
+mod faults;
+mod groups;
+mod messages;
+mod reads;
+mod writes;
+
+pub use faults::ReadFault;
+pub use faults::WriteFault;
+pub use messages::Hello;
+pub use messages::HelloFields;
+pub use messages::Message;
+pub use messages::Stc;
+pub use messages::StcFields;
+pub use messages::TreeStatus;
+pub use messages::TreeStatusFields;
+pub use reads::read;
