@@ -9,7 +9,8 @@ use lib.Dec.{eqb, leb}
 use lib.ListN.{length, getD, take, drop, length-append, length-drop}
 use lib.Seq.{drop-cons, getD-drop, getD-take}
 use Rattle.std.proofs.shelf.Lists.{append-nil, append-assoc, take-at, drop-at, take-append-drop, length-take-le, drop-drop, getD-past}
-use Rattle.std.proofs.shelf.Tests.{and-parts, and-from, and-left, and-right, cond-true, cond-false, cond-both, le-leb, lt-leb, eq-eqb, ne-eqb, leb-true, eqb-true, cases-bool}
+use Rattle.std.specs.Orderings.{When}
+use Rattle.std.proofs.shelf.Tests.{and-parts, and-from, and-left, and-right, cond-true, cond-false, cond-both, le-leb, lt-leb, eq-eqb, ne-eqb, leb-true, eqb-true, cases-bool, both-ways}
 use Rattle.frame.proofs.Listing.{new-append, new-given, new-distinct, are-new}
 use Rattle.frame.proofs.Numbers.{Octets, octets-take, octets-drop, first-two, numbers-wides, length-wides, wides-numbers, length-numbers}
 use Rattle.frame.specs.Groups.{group, groups, Listable, Grouped, is-size, begins, front, after, sym-in, asym-in, all-new, grouped}
@@ -176,3 +177,7 @@ grouped-says xs octets test =
     let second : group 2 a ≡ after 1 xs =
     sym (append-nil (group 2 a)) ∙ ap (λ l. group 2 a ++ l) (sym none) ∙ rejoins 2 (after 1 xs) (after-octets 1 xs octets) in
     (s, a, record { few = few; given = new-given (s ++ a) new; distinct = new-distinct (s ++ a) new }, ap (λ l. group 1 s ++ l) second ∙ rejoins 1 xs octets)
+
+pub decides : (xs : List ℕ) → Octets xs → (r : Bool) → r ≡ grouped xs → When r (Grouped xs) (Grouped xs → ⊥)
+decides xs octets true e = grouped-says xs octets (sym e)
+decides xs octets false e = λ g. both-ways (grouped xs) (sym e) (grouped-from xs g)

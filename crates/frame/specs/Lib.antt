@@ -1,5 +1,7 @@
 pub mod Faults
 pub mod Groups
+pub mod Listed
+pub mod Making
 pub mod Octets
 pub mod Reading
 pub mod Rules

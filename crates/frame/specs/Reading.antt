@@ -62,6 +62,11 @@ abbrev pub Reads : List ℕ → Result Message ReadFault → Type 0
 Reads xs (Ok m) = WellFormed (values m) × (octets (values m) ≡ xs)
 Reads xs (Err f) = FirstFault xs f
 
+-- ---- the parts of reading
+
+abbrev pub HelloFixed : List ℕ → Type 0
+HelloFixed xs = (1 ≤ wide-at xs 2) × IsClass (at xs 6)
+
 -- the answer is the message of these values
 abbrev pub Says : Result Message ReadFault → Values → Type 0
 Says (Ok m) v = values m ≡ v

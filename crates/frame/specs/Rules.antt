@@ -1,8 +1,10 @@
 -- The rules that a message keeps. Where none is stricter, a field's limit is the width of its octets.
+use mathlib.Core.Bool.{false}
 use mathlib.Core.Path.{_≡_}
-use Prim.Native.Nat.{ℕ, _≤_, _<_}
-use Rattle.field.specs.Bits.{UnusedClear}
+use Prim.Native.Nat.{ℕ, _≤_}
+use Rattle.field.specs.Bits.{UnusedClear, stands}
 use Rattle.field.specs.Codes.{IsClass}
+use Rattle.field.specs.declared.tree_flags.Flag.the-variants.{Coloured}
 use Rattle.frame.specs.Groups.{Grouped}
 use Rattle.frame.specs.Values.{HelloValues, StcValues, TreeStatusValues, Values, hello, stc, tree-status}
 
@@ -11,9 +13,9 @@ pub record HelloRules (h : HelloValues) : Type 0 where
   pub class : IsClass (h .class)
   pub groups : Grouped (h .groups)
 
--- a tree is coloured where bit 7 of its flags stands; any other has neither flags nor a tree sequence number
+-- a tree that is not coloured has neither flags nor a tree sequence number
 abbrev pub PlainIsBare : ℕ → ℕ → Type 0
-PlainIsBare flags tree = flags < 128 → (flags ≡ 0) × (tree ≡ 0)
+PlainIsBare flags tree = stands Coloured flags ≡ false → (flags ≡ 0) × (tree ≡ 0)
 
 pub record StcRules (s : StcValues) : Type 0 where
   pub sender : 1 ≤ s .sender

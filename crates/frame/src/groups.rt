@@ -3,8 +3,9 @@ ghost use mathlib.Core.Path.{_≡_};
 ghost use Prim.Native.Nat.{_<_};
 ghost use lib.ListN.{length};
 ghost use Rattle.field.specs.Codes.{link-code};
-ghost use Rattle.frame.specs.Groups.{is-size, front, after, stands-in, all-new, grouped};
+ghost use Rattle.frame.specs.Groups.{is-size, front, after, stands-in, all-new, Grouped};
 ghost use Rattle.frame.specs.Wide.{numbers};
+ghost use Rattle.std.specs.Orderings.{When};
 use field::LinkCode;
 
 const MOST_ADDRESSES: usize = 16;
@@ -17,7 +18,7 @@ fn is_size(size: usize, most: usize) -> bool
 }
 
 // The addresses of the group of this code at the front, and the octets behind it.
-fn split_group(octets: &[u8], code: LinkCode) -> (&[u8], &[u8])
+pub fn split_group(octets: &[u8], code: LinkCode) -> (&[u8], &[u8])
     ensures front { λ r. ⌜ now (r .0) ≡ front (link-code code) (now (octets .entry)) ⌝ }
     ensures behind { λ r. ⌜ now (r .1) ≡ after (link-code code) (now (octets .entry)) ⌝ }
     ensures short { λ r. ⌜ length (now (r .0)) < 256 ⌝ }
@@ -31,7 +32,7 @@ fn split_group(octets: &[u8], code: LinkCode) -> (&[u8], &[u8])
 }
 
 // Whether the address is one of those that the octets hold.
-fn holds(octets: &[u8], address: u16) -> bool
+pub fn holds(octets: &[u8], address: u16) -> bool
     ensures { λ r. ⌜ r ≡ stands-in address (numbers (now (octets .entry))) ⌝ }
 {
     let mut left = octets;
@@ -61,7 +62,7 @@ fn are_new(octets: &[u8], others: &[u8]) -> bool
 
 // Whether the octets are groups that keep the rules, and nothing else.
 pub fn are_groups(octets: &[u8]) -> bool
-    ensures { λ r. ⌜ r ≡ grouped (now (octets .entry)) ⌝ }
+    ensures { λ r. ⌜ When r (Grouped (now (octets .entry))) (Grouped (now (octets .entry)) → ⊥) ⌝ }
 {
     let (sym, rest) = split_group(octets, LinkCode::Sym);
     let (asym, rest) = split_group(rest, LinkCode::Asym);

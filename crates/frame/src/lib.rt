@@ -1,12 +1,15 @@
 // The three messages of the protocol, read from octets and written back without loss. No heap.
 mod faults;
 mod groups;
+mod listed;
+mod makes;
 mod messages;
 mod reads;
 mod writes;
 
 pub use faults::ReadFault;
 pub use faults::WriteFault;
+pub use listed::Addresses;
 pub use messages::Hello;
 pub use messages::HelloFields;
 pub use messages::Message;
@@ -15,3 +18,4 @@ pub use messages::StcFields;
 pub use messages::TreeStatus;
 pub use messages::TreeStatusFields;
 pub use reads::read;
+pub use writes::put;

@@ -1,9 +1,6 @@
-use super::faults::ReadFault;
-use super::groups;
 use field::Address;
 use field::Cost;
 use field::EnergyClass;
-use field::Flag;
 use field::Flags;
 use field::TreeSequenceNumber;
 use field::WaveNumber;
@@ -47,17 +44,17 @@ pub struct TreeStatusFields {
 // Each of these keeps the rules of its kind, since it is made by `new` alone.
 #[derive(Clone, Copy)]
 pub struct Hello<'a> {
-    fields: HelloFields<'a>,
+    pub(crate) fields: HelloFields<'a>,
 }
 
 #[derive(Clone, Copy)]
 pub struct Stc {
-    fields: StcFields,
+    pub(crate) fields: StcFields,
 }
 
 #[derive(Clone, Copy)]
 pub struct TreeStatus {
-    fields: TreeStatusFields,
+    pub(crate) fields: TreeStatusFields,
 }
 
 #[derive(Clone, Copy)]

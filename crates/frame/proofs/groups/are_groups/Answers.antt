@@ -7,6 +7,7 @@ use Prim.Native.Nat.{ℕ, _+_, _≤_, _<_}
 use lib.Dec.{eqb, leb}
 use lib.ListN.{length}
 use Rattle.std.proofs.shelf.Tests.{and-left, and-right, le-leb, lt-leb}
+use Rattle.frame.proofs.Grouping.{decides}
 use Rattle.frame.specs.Groups.{front, after, sym-in, asym-in, all-new, grouped}
 use Rattle.frame.specs.Wide.{numbers}
 use Rattle.frame.proofs.groups.are_groups.Needs as need
@@ -46,7 +47,8 @@ returns c =
     let rest = c .split-group-2 .result .1 .now in
     let split = over-parts (c .args .octets .now) s (c .split-group .result .1 .now) a rest (c .split-group .ensures .front) (c .split-group .ensures .behind) (c .split-group-2 .ensures .front) (c .split-group-2 .ensures .behind) in
     let empty = sym (c .is-empty .ensures) ∙ c .if-not-is-empty .left in
-    c .are-new-2 .ensures ∙ sym (split ∙ last-test s a rest empty (omega (arith, c .if-sym-asym .left)) (sym (c .are-new .ensures) ∙ c .if-not-are-new .left))
+    decides (c .args .octets .now) (λ i. c .typed .octets i .fits) (c .are-new-2 .result)
+    (c .are-new-2 .ensures ∙ sym (split ∙ last-test s a rest empty (omega (arith, c .if-sym-asym .left)) (sym (c .are-new .ensures) ∙ c .if-not-are-new .left)))
 
 pub returns-then-not-is-empty : need.returns-then-not-is-empty
 returns-then-not-is-empty c =
@@ -60,4 +62,4 @@ returns-then-not-is-empty c =
       | then-not-is-empty·by·else-not-is-empty·then-sym-asym w ↦ too-many s a rest (omega (arith, w .if-sym-asym .taken))
       | then-not-is-empty·by·else-not-is-empty·else-sym-asym·then-not-are-new w ↦ not-new s a rest (sym (w .are-new .ensures) ∙ w .if-not-are-new .taken)
     ] in
-    sym (split ∙ fails)
+    decides (c .args .octets .now) (λ i. c .typed .octets i .fits) false (sym (split ∙ fails))
