@@ -1,4 +1,6 @@
 pub mod Grouping
 pub mod Listing
+pub mod Made
 pub mod Numbers
+pub mod Placed
 pub mod Scans

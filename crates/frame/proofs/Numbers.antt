@@ -62,3 +62,17 @@ length-numbers zero (a ∷ rest) h = absurd (omega arith)
 length-numbers (suc n) [] h = omega arith
 length-numbers (suc n) (a ∷ []) h = absurd (omega arith)
 length-numbers (suc n) (a ∷ b ∷ rest) h = omega (arith, length-numbers n rest (omega arith))
+
+-- a field of two octets, as it is written and as it is read
+pub wide-from : (n : ℕ) (bytes rest : List ℕ) {more : List ℕ} → bytes ≡ wide n [] → rest ≡ more → at bytes 0 ∷ at bytes 1 ∷ rest ≡ wide n more
+wide-from n bytes rest {more} e same = ap (λ b. at b 0 ∷ at b 1 ∷ rest) e ∙ ap (λ l. wide n l) same
+
+pub wide-to : (n high low : ℕ) (more : List ℕ) {rest : List ℕ} → n ≡ high * 256 + low → low < 256 → more ≡ rest → wide n more ≡ high ∷ low ∷ rest
+wide-to n high low more e small same =
+    let a : n / 256 ≡ high = omega arith in
+    let b : n % 256 ≡ low = omega arith in
+    cc
+
+-- type and size before the fields
+pub headed : (k size kind : ℕ) {xs ys : List ℕ} → k ≡ kind → xs ≡ ys → k ∷ size ∷ xs ≡ kind ∷ size ∷ ys
+headed k size kind e same = cc

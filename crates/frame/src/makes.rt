@@ -1,7 +1,7 @@
 ghost use mathlib.Core.Path.{_≡_};
 ghost use Rattle.frame.specs.Making.{MakesHello, MakesStc, MakesTreeStatus};
 ghost use Rattle.frame.specs.Rules.{StcRules, TreeStatusRules};
-ghost use Rattle.frame.specs.Values.{stc-values, tree-status-values};
+ghost use Rattle.frame.specs.Values.{hello-values, stc-values, tree-status-values};
 ghost use Rattle.std.specs.Orderings.{When};
 use super::faults::ReadFault;
 use super::groups::are_groups;
@@ -15,7 +15,7 @@ use field::Flag;
 
 impl<'a> Hello<'a> {
     pub fn new(fields: HelloFields<'a>) -> Result<Hello<'a>, ReadFault>
-        ensures { λ r. ⌜ MakesHello (fields .entry) r ⌝ }
+        ensures { λ r. ⌜ MakesHello (hello-values (fields .entry)) r ⌝ }
     {
         if fields.sender.0 == 0 {
             return Err(ReadFault::BadField);
@@ -50,7 +50,7 @@ impl StcFields {
 
 impl Stc {
     pub fn new(fields: StcFields) -> Result<Stc, ReadFault>
-        ensures { λ r. ⌜ MakesStc fields r ⌝ }
+        ensures { λ r. ⌜ MakesStc (stc-values fields) r ⌝ }
     {
         if fields.keep_rules() {
             Ok(Stc { fields })
@@ -79,7 +79,7 @@ impl TreeStatusFields {
 
 impl TreeStatus {
     pub fn new(fields: TreeStatusFields) -> Result<TreeStatus, ReadFault>
-        ensures { λ r. ⌜ MakesTreeStatus fields r ⌝ }
+        ensures { λ r. ⌜ MakesTreeStatus (tree-status-values fields) r ⌝ }
     {
         if fields.keep_rules() {
             Ok(TreeStatus { fields })
