@@ -4,6 +4,7 @@ pub mod Listed
 pub mod Making
 pub mod Octets
 pub mod Reading
+pub mod RoundTrip
 pub mod Rules
 pub mod Values
 pub mod Wide
