@@ -16,6 +16,7 @@ pub use laws::messages_are_short;
 pub use laws::read_is_written;
 pub use laws::written_is_read;
 pub use listed::Addresses;
+pub use listed::AddressesIterator;
 pub use messages::Hello;
 pub use messages::HelloFields;
 pub use messages::Message;

@@ -1,0 +1,8 @@
+// Captured messages: lines of hexadecimal octets, and what is shown of them.
+mod hexadecimal;
+mod lines;
+mod texts;
+
+pub use hexadecimal::read_octets;
+pub use lines::Inspected;
+pub use lines::inspect_line;

@@ -1,0 +1,36 @@
+ghost use Rattle.capture.specs.Inspecting.{Inspects};
+ghost use Rattle.std.specs.Vec.{made};
+use super::hexadecimal::read_octets;
+use super::texts::Shown;
+use super::texts::ShownDisplay;
+use super::texts::is_rewritten;
+use std::alloc::AllocError;
+use std::alloc::Global;
+
+// What a line is shown as: a message with its fields, or the number of a refusal.
+#[derive(Drop)]
+pub enum Inspected {
+    Message(String),
+    Refused(u8),
+}
+
+pub fn inspect_line(heap: Global, line: &[u8]) -> Result<Inspected, AllocError>
+    ensures { λ r. ⌜ made r (Inspects (now (line .entry))) ⌝ }
+{
+    let Some(octets) = read_octets(heap, line)? else {
+        return Ok(Inspected::Refused(0));
+    };
+    let octets = octets.as_slice();
+    match frame::read(octets) {
+        Ok(message) => {
+            let rewritten = if is_rewritten(message, octets) {
+                "same"
+            } else {
+                "different"
+            };
+            let shown = Shown { message };
+            Ok(Inspected::Message(format!(heap, "{shown} rewritten={rewritten}")?))
+        }
+        Err(fault) => Ok(Inspected::Refused(fault.number())),
+    }
+}
