@@ -5,4 +5,5 @@ mod texts;
 
 pub use hexadecimal::read_octets;
 pub use lines::Inspected;
+pub use lines::InspectedDisplay;
 pub use lines::inspect_line;

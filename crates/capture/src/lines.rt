@@ -6,12 +6,22 @@ use super::texts::ShownDisplay;
 use super::texts::is_rewritten;
 use std::alloc::AllocError;
 use std::alloc::Global;
+use std::fmt;
 
 // What a line is shown as: a message with its fields, or the number of a refusal.
 #[derive(Drop)]
 pub enum Inspected {
     Message(String),
     Refused(u8),
+}
+
+pub impl fmt::Display for Inspected as InspectedDisplay {
+    fn fmt<W: fmt::Write>(&self, f: &mut fmt::Formatter<W>) -> fmt::Result {
+        match self {
+            Inspected::Message(text) => f.write_str(text.as_str()),
+            Inspected::Refused(number) => write!(f, "? {number}"),
+        }
+    }
 }
 
 pub fn inspect_line(heap: Global, line: &[u8]) -> Result<Inspected, AllocError>
