@@ -9,7 +9,7 @@ use Rattle.std.proofs.shelf.Lists.{append-assoc, append-nil}
 use Rattle.std.specs.Options.{mapped}
 use Rattle.std.specs.declared.option.Option.{Option}
 use Rattle.std.specs.declared.option.Option.the-variants.{Some, None}
-use Rattle.frame.specs.Wide.{at}
+use Rattle.field.specs.Wide.{at}
 use Rattle.capture.specs.Hexadecimal.{blank, digit, octet, led-by, spelt}
 
 -- octets that were read, before those that are left

@@ -8,12 +8,12 @@ use field::EnergyClass;
 use field::Flag;
 use field::Flags;
 use field::LinkCode;
-use frame::Addresses;
-use frame::AddressesIterator;
 use frame::Hello;
 use frame::Message;
 use frame::Stc;
 use frame::TreeStatus;
+use hello_groups::Addresses;
+use hello_groups::AddressesIterator;
 use std::fmt;
 
 // Whether writing the message gives the octets that it was read from.
@@ -48,10 +48,13 @@ fn show_hello<W: fmt::Write>(message: Hello<'_>, f: &mut fmt::Formatter<W>) -> f
     let number = fields.number;
     let vtime = fields.vtime;
     let class = class_name(fields.class);
-    write!(f, "Hello sender={sender} number={number} vtime={vtime} class={class} sym=")?;
-    show_addresses(message.addresses(LinkCode::Sym), f)?;
+    write!(
+        f,
+        "Hello sender={sender} number={number} vtime={vtime} class={class} sym="
+    )?;
+    show_addresses(fields.groups.addresses(LinkCode::Sym), f)?;
     f.write_str(" asym=")?;
-    show_addresses(message.addresses(LinkCode::Asym), f)
+    show_addresses(fields.groups.addresses(LinkCode::Asym), f)
 }
 
 fn show_stc<W: fmt::Write>(message: Stc, f: &mut fmt::Formatter<W>) -> fmt::Result {
@@ -60,7 +63,10 @@ fn show_stc<W: fmt::Write>(message: Stc, f: &mut fmt::Formatter<W>) -> fmt::Resu
     let wave = fields.wave.0;
     let root = fields.root.0;
     let cost = fields.cost;
-    write!(f, "STC sender={sender} wave={wave} root={root} cost={cost} parent=")?;
+    write!(
+        f,
+        "STC sender={sender} wave={wave} root={root} cost={cost} parent="
+    )?;
     match fields.parent {
         Some(Address(parent)) => write!(f, "{parent}")?,
         None => f.write_str("none")?,
@@ -80,11 +86,17 @@ fn show_tree_status<W: fmt::Write>(message: TreeStatus, f: &mut fmt::Formatter<W
     let root = fields.root.0;
     let tree = fields.tree.0;
     let descendants = fields.descendants;
-    write!(f, "TreeStatus sender={sender} wave={wave} root={root} tree={tree} descendants={descendants} flags=")?;
+    write!(
+        f,
+        "TreeStatus sender={sender} wave={wave} root={root} tree={tree} descendants={descendants} flags="
+    )?;
     show_flags(fields.flags, f)
 }
 
-fn show_addresses<W: fmt::Write>(addresses: Addresses<'_>, f: &mut fmt::Formatter<W>) -> fmt::Result {
+fn show_addresses<W: fmt::Write>(
+    addresses: Addresses<'_>,
+    f: &mut fmt::Formatter<W>,
+) -> fmt::Result {
     let mut any = false;
     for address in addresses {
         if any {

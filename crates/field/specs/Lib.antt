@@ -1,3 +1,4 @@
 pub mod Addresses
 pub mod Bits
 pub mod Codes
+pub mod Wide

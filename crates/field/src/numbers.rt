@@ -1,5 +1,7 @@
 ghost use mathlib.Core.Path.{_≡_};
+ghost use mathlib.Core.List.{[]};
 ghost use Rattle.field.specs.Addresses.{address-of, number-or-0};
+ghost use Rattle.field.specs.Wide.{wide};
 
 // A node's address. 0 is no node's.
 #[derive(Clone, Copy, PartialEq, Eq, Debug)]
@@ -37,4 +39,11 @@ impl Address {
             None => 0,
         }
     }
+}
+
+// A number in two octets, the high one first.
+pub fn two_octets(number: u16) -> [u8; 2]
+    ensures { λ r. ⌜ r ≡ wide number [] ⌝ }
+{
+    number.to_be_bytes()
 }

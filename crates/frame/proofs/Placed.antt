@@ -9,8 +9,8 @@ use Rattle.std.proofs.shelf.Lists.{drop-all}
 use Rattle.frame.specs.Octets.{stc-fields, tree-status-fields}
 use Rattle.frame.specs.Reading.{stc-at, tree-status-at}
 use Rattle.frame.specs.Values.{StcValues, TreeStatusValues}
-use Rattle.frame.specs.Wide.{at, wide, wide-at}
-use Rattle.frame.proofs.Numbers.{Octets, wide-to}
+use Rattle.field.specs.Wide.{at, wide, wide-at}
+use Rattle.field.proofs.Wides.{Octets, wide-to}
 
 -- n octets from place i on, and what follows them
 abbrev pub places : ℕ → ℕ → List ℕ → List ℕ

@@ -6,21 +6,20 @@ use native.Mathlib.Omega.{arith}
 use lib.ListN.{length, drop, length-append}
 use Rattle.std.specs.declared.result.Result.{Result}
 use Rattle.std.specs.declared.result.Result.the-variants.{Ok, Err}
-use Rattle.frame.specs.Groups.{Grouped, group, groups}
+use Rattle.hello_groups.specs.Groups.{group}
 use Rattle.frame.specs.Octets.{octets, hello-octets, stc-fields, tree-status-fields}
 use Rattle.frame.specs.Reading.{Rule, Reads, Says, HelloFixed, stc-at, tree-status-at}
-use Rattle.frame.specs.RoundTrip.{WrittenIsRead, ReadIsWritten, MessagesAreShort, GroupsAreLists}
+use Rattle.frame.specs.RoundTrip.{WrittenIsRead, ReadIsWritten, MessagesAreShort}
 use Rattle.frame.specs.Rules.{WellFormed, StcRules, TreeStatusRules}
 use Rattle.frame.specs.Values.{HelloValues, StcValues, TreeStatusValues, Values, hello, stc, tree-status, values}
-use Rattle.frame.specs.Wide.{at, wide-at}
+use Rattle.field.specs.Wide.{at, wide-at}
 use Rattle.frame.specs.Writing.{WritesMessage}
 use Rattle.frame.specs.declared.faults.ReadFault.{ReadFault}
 use Rattle.frame.specs.declared.faults.ReadFault.the-variants.{Short, UnknownKind, WrongSize, BadField, BadGroup}
 use Rattle.frame.specs.declared.faults.WriteFault.{WriteFault}
 use Rattle.frame.specs.declared.faults.WriteFault.the-variants.{OutputTooShort}
 use Rattle.frame.specs.declared.messages.Message.{Message}
-use Rattle.frame.proofs.Grouping.{sym-in-groups, asym-in-groups}
-use Rattle.frame.proofs.Numbers.{length-wides}
+use Rattle.field.proofs.Wides.{length-wides}
 use Rattle.frame.proofs.Placed.{stc-same, tree-status-same}
 
 -- ---- the values stand at their places in the octets
@@ -113,6 +112,3 @@ read-is-written xs m reads before now (Ok n) writes fits =
 read-is-written xs m reads before now (Err OutputTooShort) writes fits =
     let refused = writes .0 (omega (arith, messages-are-short (values m) (reads .0))) in
     absurd (omega (arith, refused .0, ap length (reads .1)))
-
-pub groups-are-lists : GroupsAreLists
-groups-are-lists s a rules = (sym-in-groups s a (rules .few), asym-in-groups s a (rules .few))

@@ -1,11 +1,8 @@
 pub mod Faults
-pub mod Groups
-pub mod Listed
 pub mod Making
 pub mod Octets
 pub mod Reading
 pub mod RoundTrip
 pub mod Rules
 pub mod Values
-pub mod Wide
 pub mod Writing

@@ -3,7 +3,7 @@ use mathlib.Core.Path.{_≡_}
 use Prim.Native.Nat.{ℕ, _≤_}
 use Rattle.std.specs.declared.result.Result.{Result}
 use Rattle.std.specs.declared.result.Result.the-variants.{Ok, Err}
-use Rattle.frame.specs.Groups.{Grouped}
+use Rattle.hello_groups.specs.Groups.{Grouped}
 use Rattle.frame.specs.Rules.{HelloRules, StcRules, TreeStatusRules}
 use Rattle.frame.specs.Values.{HelloValues, StcValues, TreeStatusValues, hello-values, stc-values, tree-status-values}
 use Rattle.frame.specs.declared.faults.ReadFault.{ReadFault}

@@ -3,7 +3,7 @@ use mathlib.Core.List.{List, [], _∷_}
 use Prim.Native.Nat.{ℕ, _+_}
 use lib.ListN.{length}
 use Rattle.frame.specs.Values.{HelloValues, StcValues, TreeStatusValues, Values, hello, stc, tree-status}
-use Rattle.frame.specs.Wide.{wide}
+use Rattle.field.specs.Wide.{wide}
 
 abbrev pub hello-octets : HelloValues → List ℕ
 hello-octets h = 1 ∷ (7 + length (h .groups)) ∷ wide (h .sender) (h .number ∷ h .vtime ∷ h .class ∷ h .groups)

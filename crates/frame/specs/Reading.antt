@@ -7,11 +7,11 @@ use Rattle.std.specs.declared.result.Result.{Result}
 use Rattle.std.specs.declared.result.Result.the-variants.{Ok, Err}
 use Rattle.field.specs.Codes.{IsClass, IsKind}
 use Rattle.frame.specs.Faults.{read-fault-number}
-use Rattle.frame.specs.Groups.{Grouped}
+use Rattle.hello_groups.specs.Groups.{Grouped}
 use Rattle.frame.specs.Octets.{octets, hello-octets, stc-fields, tree-status-fields}
 use Rattle.frame.specs.Rules.{HelloRules, StcRules, TreeStatusRules, WellFormed}
 use Rattle.frame.specs.Values.{StcValues, TreeStatusValues, Values, values, hello-values, stc-values, tree-status-values}
-use Rattle.frame.specs.Wide.{at, wide-at}
+use Rattle.field.specs.Wide.{at, wide-at}
 use Rattle.frame.specs.declared.faults.ReadFault.{ReadFault}
 use Rattle.frame.specs.declared.faults.ReadFault.the-variants.{Short, UnknownKind, WrongSize, BadField, BadGroup}
 use Rattle.frame.specs.declared.messages.Hello.{Hello}

@@ -5,7 +5,6 @@ use Prim.Native.Nat.{ℕ, _≤_}
 use lib.ListN.{length, drop}
 use Rattle.std.specs.declared.result.Result.{Result}
 use Rattle.std.specs.declared.result.Result.the-variants.{Ok}
-use Rattle.frame.specs.Groups.{Listable, groups, sym-in, asym-in}
 use Rattle.frame.specs.Octets.{octets}
 use Rattle.frame.specs.Reading.{Reads, Says}
 use Rattle.frame.specs.Rules.{WellFormed}
@@ -29,10 +28,6 @@ ReadIsWritten =
 -- no message that keeps the rules is longer than a Hello with sixteen addresses in two groups
 abbrev pub MessagesAreShort : Type 0
 MessagesAreShort = (v : Values) → WellFormed v → length (octets v) ≤ 43
-
--- the addresses read from groups are those that the groups were made of
-abbrev pub GroupsAreLists : Type 0
-GroupsAreLists = (sym asym : List ℕ) → Listable (sym ++ asym) → (sym-in (groups sym asym) ≡ sym) × (asym-in (groups sym asym) ≡ asym)
 
 -- the first word of root 10, where trees are held for 120 seconds
 abbrev pub FirstWord : Type 0

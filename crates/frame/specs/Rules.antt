@@ -5,7 +5,7 @@ use Prim.Native.Nat.{ℕ, _≤_}
 use Rattle.field.specs.Bits.{UnusedClear, stands}
 use Rattle.field.specs.Codes.{IsClass}
 use Rattle.field.specs.declared.tree_flags.Flag.the-variants.{Coloured}
-use Rattle.frame.specs.Groups.{Grouped}
+use Rattle.hello_groups.specs.Groups.{Grouped}
 use Rattle.frame.specs.Values.{HelloValues, StcValues, TreeStatusValues, Values, hello, stc, tree-status}
 
 pub record HelloRules (h : HelloValues) : Type 0 where

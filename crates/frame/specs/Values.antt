@@ -50,7 +50,7 @@ hello-values h =
       number = h .number;
       vtime = h .vtime;
       class = class-code (h .class);
-      groups = now (h .groups);
+      groups = now (h .groups .0);
     }
 
 abbrev pub stc-values : StcFields → StcValues

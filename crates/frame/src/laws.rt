@@ -1,27 +1,18 @@
-// Laws of the messages. Each function stands for the theorem in its contract, and does nothing.
-ghost use Rattle.frame.specs.RoundTrip.{WrittenIsRead, ReadIsWritten, MessagesAreShort, GroupsAreLists, FirstWord};
+// Each function here stands for the theorem in its contract, and does nothing.
+ghost use Rattle.frame.specs.RoundTrip.{WrittenIsRead, ReadIsWritten, MessagesAreShort, FirstWord};
 
 pub fn written_is_read()
     ensures { λ _. ⌜ WrittenIsRead ⌝ }
-{
-}
+{}
 
 pub fn read_is_written()
     ensures { λ _. ⌜ ReadIsWritten ⌝ }
-{
-}
+{}
 
 pub fn messages_are_short()
     ensures { λ _. ⌜ MessagesAreShort ⌝ }
-{
-}
-
-pub fn groups_are_lists()
-    ensures { λ _. ⌜ GroupsAreLists ⌝ }
-{
-}
+{}
 
 pub fn first_word_of_a_root()
     ensures { λ _. ⌜ FirstWord ⌝ }
-{
-}
+{}

@@ -1,8 +1,6 @@
 // The three messages of the protocol, read from octets and written back without loss. No heap.
 mod faults;
-mod groups;
 mod laws;
-mod listed;
 mod makes;
 mod messages;
 mod reads;
@@ -11,12 +9,9 @@ mod writes;
 pub use faults::ReadFault;
 pub use faults::WriteFault;
 pub use laws::first_word_of_a_root;
-pub use laws::groups_are_lists;
 pub use laws::messages_are_short;
 pub use laws::read_is_written;
 pub use laws::written_is_read;
-pub use listed::Addresses;
-pub use listed::AddressesIterator;
 pub use messages::Hello;
 pub use messages::HelloFields;
 pub use messages::Message;

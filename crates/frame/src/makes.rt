@@ -4,7 +4,6 @@ ghost use Rattle.frame.specs.Rules.{StcRules, TreeStatusRules};
 ghost use Rattle.frame.specs.Values.{hello-values, stc-values, tree-status-values};
 ghost use Rattle.std.specs.Orderings.{When};
 use super::faults::ReadFault;
-use super::groups::are_groups;
 use super::messages::Hello;
 use super::messages::HelloFields;
 use super::messages::Stc;
@@ -20,7 +19,7 @@ impl<'a> Hello<'a> {
         if fields.sender.0 == 0 {
             return Err(ReadFault::BadField);
         }
-        if !are_groups(fields.groups) {
+        if !fields.groups.keep_rules() {
             return Err(ReadFault::BadGroup);
         }
         Ok(Hello { fields })
@@ -70,10 +69,7 @@ impl TreeStatusFields {
     fn keep_rules(&self) -> bool
         ensures { λ r. ⌜ When r (TreeStatusRules (tree-status-values (now (self .entry)))) (TreeStatusRules (tree-status-values (now (self .entry))) → ⊥) ⌝ }
     {
-        self.sender.0 != 0
-            && self.wave.0 != 0
-            && self.root.0 != 0
-            && self.flags.are_known()
+        self.sender.0 != 0 && self.wave.0 != 0 && self.root.0 != 0 && self.flags.are_known()
     }
 }
 

@@ -4,6 +4,7 @@ use field::EnergyClass;
 use field::Flags;
 use field::TreeSequenceNumber;
 use field::WaveNumber;
+use hello_groups::Groups;
 
 // Who the sender is and whom it hears.
 #[derive(Clone, Copy)]
@@ -13,7 +14,7 @@ pub struct HelloFields<'a> {
     pub vtime: u8,
     pub class: EnergyClass,
     // as they were received
-    pub groups: &'a [u8],
+    pub groups: Groups<'a>,
 }
 
 // An offer of a way to the root of a tree.

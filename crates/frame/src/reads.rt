@@ -13,6 +13,7 @@ use field::Flags;
 use field::Kind;
 use field::TreeSequenceNumber;
 use field::WaveNumber;
+use hello_groups::Groups;
 
 // The message that the octets are, or the first rule that they break.
 pub fn read(octets: &[u8]) -> Result<Message<'_>, ReadFault>
@@ -48,7 +49,7 @@ fn read_hello(octets: &[u8]) -> Result<Hello<'_>, ReadFault>
         number: *number,
         vtime: *vtime,
         class,
-        groups: &octets[7..],
+        groups: Groups(&octets[7..]),
     })
 }
 

@@ -1,8 +1,6 @@
 ghost use mathlib.Core.Path.{_≡_};
-ghost use mathlib.Core.List.{[]};
 ghost use Rattle.frame.specs.Octets.{octets};
 ghost use Rattle.frame.specs.Values.{values, hello-values, stc-values, tree-status-values, hello, stc, tree-status};
-ghost use Rattle.frame.specs.Wide.{wide};
 ghost use Rattle.frame.specs.Writing.{Writes, WritesMessage};
 use super::faults::WriteFault;
 use super::messages::Hello;
@@ -11,6 +9,8 @@ use super::messages::Stc;
 use super::messages::TreeStatus;
 use field::Address;
 use field::Kind;
+use field::two_octets;
+use hello_groups::Groups;
 
 // Fills the front of the output with the octets; the rest remains.
 pub fn put(octets: &[u8], out: &mut [u8]) -> Result<usize, WriteFault>
@@ -22,13 +22,6 @@ pub fn put(octets: &[u8], out: &mut [u8]) -> Result<usize, WriteFault>
     }
     out[0..len].copy_from_slice(octets);
     Ok(len)
-}
-
-// A number in two octets, the high one first.
-fn two_octets(number: u16) -> [u8; 2]
-    ensures { λ r. ⌜ r ≡ wide number [] ⌝ }
-{
-    number.to_be_bytes()
 }
 
 impl Message<'_> {
@@ -49,7 +42,8 @@ impl Hello<'_> {
         ensures { λ r. ⌜ WritesMessage (octets (hello (hello-values (self .entry .fields)))) (now (out .entry)) (now (out .exit)) r ⌝ }
     {
         let fields = self.fields;
-        let Ok(size) = u8::try_from(fields.groups.len().saturating_add(7)) else {
+        let Groups(groups) = fields.groups;
+        let Ok(size) = u8::try_from(groups.len().saturating_add(7)) else {
             return Err(WriteFault::OutputTooShort);
         };
         let len = size as usize;
@@ -67,7 +61,7 @@ impl Hello<'_> {
             fields.class.code(),
         ];
         out[0..7].copy_from_slice(&head);
-        out[7..len].copy_from_slice(fields.groups);
+        out[7..len].copy_from_slice(groups);
         Ok(len)
     }
 }

@@ -6,8 +6,8 @@ use Prim.Native.Nat.{ℕ, _+_, _-_, _≤_}
 use lib.ListN.{length, drop, length-drop}
 use Rattle.std.proofs.shelf.Lists.{take-rest}
 use Rattle.field.specs.Codes.{kind-code}
-use Rattle.frame.specs.Wide.{at}
-use Rattle.frame.proofs.Numbers.{first-two}
+use Rattle.field.specs.Wide.{at}
+use Rattle.field.proofs.Wides.{first-two}
 use Rattle.frame.proofs.reads.read.Needs as need
 
 -- type, size and fields are the octets, where the size is the number of octets

@@ -9,17 +9,17 @@ use Rattle.std.specs.declared.result.Result.{Result}
 use Rattle.std.specs.declared.result.Result.the-variants.{Ok, Err}
 use Rattle.field.proofs.Fields.{is-class}
 use Rattle.field.specs.Codes.{IsClass}
-use Rattle.frame.specs.Groups.{Grouped}
+use Rattle.hello_groups.specs.Groups.{Grouped}
 use Rattle.frame.specs.Making.{MakesHello}
 use Rattle.frame.specs.Octets.{hello-octets}
 use Rattle.frame.specs.Reading.{ReadsHello}
 use Rattle.frame.specs.Rules.{HelloRules}
 use Rattle.frame.specs.Values.{HelloValues}
-use Rattle.frame.specs.Wide.{at, wide, wide-at}
+use Rattle.field.specs.Wide.{at, wide, wide-at}
 use Rattle.frame.specs.declared.faults.ReadFault.{ReadFault}
 use Rattle.frame.specs.declared.faults.ReadFault.the-variants.{Short, UnknownKind, WrongSize, BadField, BadGroup}
 use Rattle.frame.specs.declared.messages.Hello.{Hello}
-use Rattle.frame.proofs.Numbers.{Octets, wide-to}
+use Rattle.field.proofs.Wides.{Octets, wide-to}
 use Rattle.frame.proofs.Placed.{by-places}
 use Rattle.frame.proofs.reads.read_hello.Needs as need
 

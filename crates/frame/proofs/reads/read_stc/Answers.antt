@@ -9,10 +9,10 @@ use Rattle.frame.specs.Octets.{stc-fields}
 use Rattle.frame.specs.Reading.{stc-at}
 use Rattle.frame.specs.Rules.{StcRules}
 use Rattle.frame.specs.Values.{stc-values}
-use Rattle.frame.specs.Wide.{at, wide-at}
+use Rattle.field.specs.Wide.{at, wide-at}
 use Rattle.frame.specs.declared.messages.Stc.{Stc}
 use Rattle.frame.proofs.Made.{reads-made}
-use Rattle.frame.proofs.Numbers.{Octets}
+use Rattle.field.proofs.Wides.{Octets}
 use Rattle.frame.proofs.Placed.{stc-placed, stc-same}
 use Rattle.frame.proofs.reads.read_stc.Needs as need
 

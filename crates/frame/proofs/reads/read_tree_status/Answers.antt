@@ -9,7 +9,7 @@ use Rattle.frame.specs.Rules.{TreeStatusRules}
 use Rattle.frame.specs.Values.{tree-status-values}
 use Rattle.frame.specs.declared.messages.TreeStatus.{TreeStatus}
 use Rattle.frame.proofs.Made.{reads-made}
-use Rattle.frame.proofs.Numbers.{Octets}
+use Rattle.field.proofs.Wides.{Octets}
 use Rattle.frame.proofs.Placed.{tree-status-placed, tree-status-same}
 use Rattle.frame.proofs.reads.read_tree_status.Needs as need
 

@@ -9,9 +9,9 @@ use Rattle.std.proofs.shelf.Lists.{append-assoc, take-at, drop-at, drop-drop}
 use Rattle.std.specs.declared.result.Result.the-variants.{Ok}
 use Rattle.frame.specs.Octets.{hello-octets}
 use Rattle.frame.specs.Values.{HelloValues}
-use Rattle.frame.specs.Wide.{at, wide}
+use Rattle.field.specs.Wide.{at, wide}
 use Rattle.frame.specs.Writing.{WritesMessage}
-use Rattle.frame.proofs.Numbers.{headed, wide-from}
+use Rattle.field.proofs.Wides.{headed, wide-from}
 use Rattle.frame.proofs.messages.Hello.write.Needs as need
 
 -- a head written to the front, and groups behind it
@@ -42,7 +42,7 @@ module _ (v : HelloValues) (out : List ℕ) (size : ℕ) (sized : size ≡ 7 + l
 pub returns : need.returns
 returns c =
     let f = c .args .self .fields in
-    let size : c .in-Ok .size ≡ 7 + length (f .groups .now) = search needs in
+    let size : c .in-Ok .size ≡ 7 + length (f .groups .0 .now) = search needs in
     let head =
     c .copy-from-slice .ensures .after
     ∙ headed _ (c .in-Ok .size) 1 (c .code .ensures) (wide-from (f .sender .0) _ _ (c .two-octets .ensures) (ap (λ k. f .number ∷ f .vtime ∷ k ∷ []) (c .code-2 .ensures))) in

@@ -1,7 +1,7 @@
 use mathlib.Core.List.{_∷_, []}
 use mathlib.Core.Path.{_≡_, refl, ap, _∙_}
-use Rattle.frame.specs.Wide.{wide}
-use Rattle.frame.proofs.Numbers.{headed, wide-from}
+use Rattle.field.specs.Wide.{wide}
+use Rattle.field.proofs.Wides.{headed, wide-from}
 use Rattle.frame.proofs.messages.Stc.octets.Needs as need
 
 pub returns : need.returns

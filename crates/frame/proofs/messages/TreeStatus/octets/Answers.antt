@@ -1,5 +1,5 @@
 use mathlib.Core.Path.{refl}
-use Rattle.frame.proofs.Numbers.{headed, wide-from}
+use Rattle.field.proofs.Wides.{headed, wide-from}
 use Rattle.frame.proofs.messages.TreeStatus.octets.Needs as need
 
 pub returns : need.returns
