@@ -8,9 +8,9 @@ use Rattle.frame.specs.Rules.{HelloRules, StcRules, TreeStatusRules}
 use Rattle.frame.specs.Values.{HelloValues, StcValues, TreeStatusValues, hello-values, stc-values, tree-status-values}
 use Rattle.frame.specs.declared.faults.ReadFault.{ReadFault}
 use Rattle.frame.specs.declared.faults.ReadFault.the-variants.{Short, UnknownKind, WrongSize, BadField, BadGroup}
-use Rattle.frame.specs.declared.messages.Hello.{Hello}
-use Rattle.frame.specs.declared.messages.Stc.{Stc}
-use Rattle.frame.specs.declared.messages.TreeStatus.{TreeStatus}
+use Rattle.frame.specs.declared.hellos.Hello.{Hello}
+use Rattle.frame.specs.declared.stcs.Stc.{Stc}
+use Rattle.frame.specs.declared.tree_statuses.TreeStatus.{TreeStatus}
 
 abbrev pub MakesHello : HelloValues → Result Hello ReadFault → Type 0
 MakesHello v (Ok m) = (hello-values (m .fields) ≡ v) × HelloRules v

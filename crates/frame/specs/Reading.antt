@@ -14,10 +14,10 @@ use Rattle.frame.specs.Values.{StcValues, TreeStatusValues, Values, values, he
 use Rattle.field.specs.Wide.{at, wide-at}
 use Rattle.frame.specs.declared.faults.ReadFault.{ReadFault}
 use Rattle.frame.specs.declared.faults.ReadFault.the-variants.{Short, UnknownKind, WrongSize, BadField, BadGroup}
-use Rattle.frame.specs.declared.messages.Hello.{Hello}
+use Rattle.frame.specs.declared.hellos.Hello.{Hello}
 use Rattle.frame.specs.declared.messages.Message.{Message}
-use Rattle.frame.specs.declared.messages.Stc.{Stc}
-use Rattle.frame.specs.declared.messages.TreeStatus.{TreeStatus}
+use Rattle.frame.specs.declared.stcs.Stc.{Stc}
+use Rattle.frame.specs.declared.tree_statuses.TreeStatus.{TreeStatus}
 
 -- an STC's fields, which follow type and size, at their places
 abbrev pub stc-at : List ℕ → StcValues

@@ -4,9 +4,9 @@ use Prim.Native.Nat.{ℕ}
 use denote.Ref.{now}
 use Rattle.field.specs.Addresses.{number-or-0}
 use Rattle.field.specs.Codes.{class-code}
-use Rattle.frame.specs.declared.messages.HelloFields.{HelloFields}
-use Rattle.frame.specs.declared.messages.StcFields.{StcFields}
-use Rattle.frame.specs.declared.messages.TreeStatusFields.{TreeStatusFields}
+use Rattle.frame.specs.declared.hellos.HelloFields.{HelloFields}
+use Rattle.frame.specs.declared.stcs.StcFields.{StcFields}
+use Rattle.frame.specs.declared.tree_statuses.TreeStatusFields.{TreeStatusFields}
 use Rattle.frame.specs.declared.messages.Message.{Message}
 use Rattle.frame.specs.declared.messages.Message.the-variants as message
 

@@ -1,66 +1,51 @@
-use field::Address;
-use field::Cost;
-use field::EnergyClass;
-use field::Flags;
-use field::TreeSequenceNumber;
-use field::WaveNumber;
-use hello_groups::Groups;
-
-// Who the sender is and whom it hears.
-#[derive(Clone, Copy)]
-pub struct HelloFields<'a> {
-    pub sender: Address,
-    pub number: u8,
-    pub vtime: u8,
-    pub class: EnergyClass,
-    // as they were received
-    pub groups: Groups<'a>,
-}
-
-// An offer of a way to the root of a tree.
-#[derive(Clone, Copy)]
-pub struct StcFields {
-    pub sender: Address,
-    pub wave: WaveNumber,
-    pub root: Address,
-    pub cost: Cost,
-    pub parent: Option<Address>,
-    pub vtime: u8,
-    pub ttl: u8,
-    pub flags: Flags,
-    pub tree: TreeSequenceNumber,
-}
-
-// Whether a coloured tree is at rest below the sender.
-#[derive(Clone, Copy)]
-pub struct TreeStatusFields {
-    pub sender: Address,
-    pub wave: WaveNumber,
-    pub root: Address,
-    pub tree: TreeSequenceNumber,
-    pub descendants: u16,
-    pub flags: Flags,
-}
-
-// Each of these keeps the rules of its kind, since it is made by `new` alone.
-#[derive(Clone, Copy)]
-pub struct Hello<'a> {
-    pub(crate) fields: HelloFields<'a>,
-}
-
-#[derive(Clone, Copy)]
-pub struct Stc {
-    pub(crate) fields: StcFields,
-}
-
-#[derive(Clone, Copy)]
-pub struct TreeStatus {
-    pub(crate) fields: TreeStatusFields,
-}
+ghost use Rattle.frame.specs.Octets.{octets};
+ghost use Rattle.frame.specs.Reading.{Reads};
+ghost use Rattle.frame.specs.Values.{values};
+ghost use Rattle.frame.specs.Writing.{WritesMessage};
+use super::faults::ReadFault;
+use super::faults::WriteFault;
+use super::hellos::Hello;
+use super::outputs::put;
+use super::stcs::Stc;
+use super::tree_statuses::TreeStatus;
+use field::Kind;
 
 #[derive(Clone, Copy)]
 pub enum Message<'a> {
     Hello(Hello<'a>),
     Stc(Stc),
     TreeStatus(TreeStatus),
+}
+
+// The message that the octets are, or the first rule that they break.
+pub fn read(octets: &[u8]) -> Result<Message<'_>, ReadFault>
+    ensures { λ r. ⌜ Reads (now (octets .entry)) r ⌝ }
+{
+    let [code, size, rest @ ..] = octets else {
+        return Err(ReadFault::Short);
+    };
+    let Some(kind) = Kind::from_code(*code) else {
+        return Err(ReadFault::UnknownKind);
+    };
+    if *size as usize != octets.len() {
+        return Err(ReadFault::WrongSize);
+    }
+    match kind {
+        Kind::Hello => Ok(Message::Hello(Hello::read(octets)?)),
+        Kind::Stc => Ok(Message::Stc(Stc::read(rest)?)),
+        Kind::TreeStatus => Ok(Message::TreeStatus(TreeStatus::read(rest)?)),
+    }
+}
+
+impl Message<'_> {
+    // Fills the front of the output with the message; the rest remains.
+    pub fn write(self, out: &mut [u8]) -> Result<usize, WriteFault>
+        ensures { λ r. ⌜ WritesMessage (octets (values (self .entry))) (now (out .entry)) (now (out .exit)) r ⌝ }
+    {
+        match self {
+            Message::Hello(message) => message.write(out),
+            Message::Stc(message) => put(&message.octets(), out),
+            Message::TreeStatus(message) => put(&message.octets(), out),
+        }
+    }
 }

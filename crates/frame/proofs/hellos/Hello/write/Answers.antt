@@ -12,7 +12,7 @@ use Rattle.frame.specs.Values.{HelloValues}
 use Rattle.field.specs.Wide.{at, wide}
 use Rattle.frame.specs.Writing.{WritesMessage}
 use Rattle.field.proofs.Wides.{headed, wide-from}
-use Rattle.frame.proofs.messages.Hello.write.Needs as need
+use Rattle.frame.proofs.hellos.Hello.write.Needs as need
 
 -- a head written to the front, and groups behind it
 two-parts : (out head groups : List ℕ) (size : ℕ) → length head ≡ 7 → size ≡ 7 + length groups → putMid 7 (size - 7) (head ++ postOf 0 7 out) groups ≡ head ++ (groups ++ drop size out)

@@ -8,7 +8,7 @@ use Rattle.std.proofs.shelf.Lists.{take-rest}
 use Rattle.field.specs.Codes.{kind-code}
 use Rattle.field.specs.Wide.{at}
 use Rattle.field.proofs.Wides.{first-two}
-use Rattle.frame.proofs.reads.read.Needs as need
+use Rattle.frame.proofs.messages.read.Needs as need
 
 -- type, size and fields are the octets, where the size is the number of octets
 framed : (xs fields : List ℕ) (kind n : ℕ) → 2 ≤ length xs → kind ≡ at xs 0 → at xs 1 ≡ length xs → fields ≡ drop 2 xs → length fields ≡ n → kind ∷ (2 + n) ∷ fields ≡ xs
@@ -17,16 +17,16 @@ framed xs fields kind n two k size same len =
     let all = first-two xs two in
     cc
 
-pub returns-in-Continue-read-stc : need.returns-in-Continue-read-stc
-returns-in-Continue-read-stc c =
+pub returns-in-Continue-read-2 : need.returns-in-Continue-read-2
+returns-in-Continue-read-2 c =
     let xs = c .args .octets .now in
     let two : 2 ≤ length xs = search needs in
-    let got = c .in-Continue-read-stc .ensures tt in
+    let got = c .in-Continue-read-2 .ensures tt in
     (got .0, framed xs _ 2 15 two (sym (ap kind-code (c .in-Stc .is)) ∙ c .in-Some .ensures tt) (c .if-size-octets .left) (got .1 ∙ take-rest xs 2) refl)
 
-pub returns-in-Continue-read-tree-status : need.returns-in-Continue-read-tree-status
-returns-in-Continue-read-tree-status c =
+pub returns-in-Continue-read-3 : need.returns-in-Continue-read-3
+returns-in-Continue-read-3 c =
     let xs = c .args .octets .now in
     let two : 2 ≤ length xs = search needs in
-    let got = c .in-Continue-read-tree-status .ensures tt in
+    let got = c .in-Continue-read-3 .ensures tt in
     (got .0, framed xs _ 3 11 two (sym (ap kind-code (c .in-TreeStatus .is)) ∙ c .in-Some .ensures tt) (c .if-size-octets .left) (got .1 ∙ take-rest xs 2) refl)

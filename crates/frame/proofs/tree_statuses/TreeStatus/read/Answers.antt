@@ -7,11 +7,11 @@ use Rattle.frame.specs.Octets.{tree-status-fields}
 use Rattle.frame.specs.Reading.{tree-status-at}
 use Rattle.frame.specs.Rules.{TreeStatusRules}
 use Rattle.frame.specs.Values.{tree-status-values}
-use Rattle.frame.specs.declared.messages.TreeStatus.{TreeStatus}
+use Rattle.frame.specs.declared.tree_statuses.TreeStatus.{TreeStatus}
 use Rattle.frame.proofs.Made.{reads-made}
 use Rattle.field.proofs.Wides.{Octets}
 use Rattle.frame.proofs.Placed.{tree-status-placed, tree-status-same}
-use Rattle.frame.proofs.reads.read_tree_status.Needs as need
+use Rattle.frame.proofs.tree_statuses.TreeStatus.read.Needs as need
 
 pub returns : need.returns
 returns c =

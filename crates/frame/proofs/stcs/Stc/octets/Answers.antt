@@ -2,7 +2,7 @@ use mathlib.Core.List.{_∷_, []}
 use mathlib.Core.Path.{_≡_, refl, ap, _∙_}
 use Rattle.field.specs.Wide.{wide}
 use Rattle.field.proofs.Wides.{headed, wide-from}
-use Rattle.frame.proofs.messages.Stc.octets.Needs as need
+use Rattle.frame.proofs.stcs.Stc.octets.Needs as need
 
 pub returns : need.returns
 returns c =

@@ -10,11 +10,11 @@ use Rattle.frame.specs.Reading.{stc-at}
 use Rattle.frame.specs.Rules.{StcRules}
 use Rattle.frame.specs.Values.{stc-values}
 use Rattle.field.specs.Wide.{at, wide-at}
-use Rattle.frame.specs.declared.messages.Stc.{Stc}
+use Rattle.frame.specs.declared.stcs.Stc.{Stc}
 use Rattle.frame.proofs.Made.{reads-made}
 use Rattle.field.proofs.Wides.{Octets}
 use Rattle.frame.proofs.Placed.{stc-placed, stc-same}
-use Rattle.frame.proofs.reads.read_stc.Needs as need
+use Rattle.frame.proofs.stcs.Stc.read.Needs as need
 
 pub returns : need.returns
 returns c =

@@ -1,6 +1,6 @@
 use mathlib.Core.Path.{refl}
 use Rattle.field.proofs.Wides.{headed, wide-from}
-use Rattle.frame.proofs.messages.TreeStatus.octets.Needs as need
+use Rattle.frame.proofs.tree_statuses.TreeStatus.octets.Needs as need
 
 pub returns : need.returns
 returns c =
