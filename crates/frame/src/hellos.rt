@@ -71,7 +71,7 @@ impl<'a> Hello<'a> {
     pub(crate) fn write(self, out: &mut [u8]) -> Result<usize, WriteFault>
         ensures { λ r. ⌜ WritesMessage (octets (hello (hello-values (self .entry .fields)))) (now (out .entry)) (now (out .exit)) r ⌝ }
     {
-        let fields = self.fields;
+        let Hello { fields } = self;
         let Groups(groups) = fields.groups;
         let Ok(size) = u8::try_from(groups.len().saturating_add(7)) else {
             return Err(WriteFault::OutputTooShort);

@@ -17,7 +17,6 @@ pub use laws::read_is_written;
 pub use laws::written_is_read;
 pub use messages::Message;
 pub use messages::read;
-pub use outputs::put;
 pub use stcs::Stc;
 pub use stcs::StcFields;
 pub use tree_statuses::TreeStatus;

@@ -107,7 +107,7 @@ impl Stc {
     pub(crate) fn octets(self) -> [u8; 17]
         ensures { λ r. ⌜ r ≡ octets (stc (stc-values (self .fields))) ⌝ }
     {
-        let fields = self.fields;
+        let Stc { fields } = self;
         let [s1, s0] = two_octets(fields.sender.0);
         let [w1, w0] = two_octets(fields.wave.0);
         let [r1, r0] = two_octets(fields.root.0);

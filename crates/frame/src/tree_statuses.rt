@@ -75,7 +75,7 @@ impl TreeStatus {
     pub(crate) fn octets(self) -> [u8; 13]
         ensures { λ r. ⌜ r ≡ octets (tree-status (tree-status-values (self .fields))) ⌝ }
     {
-        let fields = self.fields;
+        let TreeStatus { fields } = self;
         let [s1, s0] = two_octets(fields.sender.0);
         let [w1, w0] = two_octets(fields.wave.0);
         let [r1, r0] = two_octets(fields.root.0);

@@ -5,6 +5,9 @@ use std::io;
 use std::io::BufRead;
 use std::io::BufReader;
 
+#[cfg(test)]
+mod tests;
+
 struct Row<'a> {
     about: &'a str,
     line: &'a str,
