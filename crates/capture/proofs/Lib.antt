@@ -1,1 +1,2 @@
+pub mod Itemized
 pub mod Spelling

@@ -1,6 +1,7 @@
 // Captured messages: lines of hexadecimal octets, and what is shown of them.
 mod hexadecimal;
 mod lines;
+mod rewriting;
 mod texts;
 
 pub use hexadecimal::read_octets;

@@ -1,9 +1,9 @@
-ghost use Rattle.capture.specs.Inspecting.{Inspects};
+ghost use Rattle.capture.specs.Inspecting.{Inspects, inspected-text};
 ghost use Rattle.std.specs.Vec.{made};
+ghost use Rattle.std.specs.declared.option.Option.the-variants.{Some};
 use super::hexadecimal::read_octets;
-use super::texts::Shown;
-use super::texts::ShownDisplay;
-use super::texts::is_rewritten;
+use super::rewriting::compare;
+use super::texts::describe;
 use std::alloc::AllocError;
 use std::alloc::Global;
 use std::fmt;
@@ -16,6 +16,8 @@ pub enum Inspected {
 }
 
 pub impl fmt::Display for Inspected as InspectedDisplay {
+    ghost shown = { λ x. Some (inspected-text x) };
+
     fn fmt<W: fmt::Write>(&self, f: &mut fmt::Formatter<W>) -> fmt::Result {
         match self {
             Inspected::Message(text) => f.write_str(text.as_str()),
@@ -33,13 +35,9 @@ pub fn inspect_line(heap: Global, line: &[u8]) -> Result<Inspected, AllocError>
     let octets = octets.as_slice();
     match frame::read(octets) {
         Ok(message) => {
-            let rewritten = if is_rewritten(message, octets) {
-                "same"
-            } else {
-                "different"
-            };
-            let shown = Shown { message };
-            Ok(Inspected::Message(format!(heap, "{shown} rewritten={rewritten}")?))
+            let text = describe(heap, message)?;
+            let rewritten = compare(message, octets);
+            Ok(Inspected::Message(format!(heap, "{text} rewritten={rewritten}")?))
         }
         Err(fault) => Ok(Inspected::Refused(fault.number())),
     }

@@ -1,144 +1,159 @@
 // Messages as text: the kind, then each field by name.
-ghost use mathlib.Core.Bool.{true};
 ghost use mathlib.Core.Path.{_≡_};
-ghost use Rattle.frame.specs.Reading.{Reads};
-ghost use Rattle.std.specs.declared.result.Result.the-variants.{Ok};
+ghost use Rattle.capture.specs.Texts.{with-item, or-none, addresses-text, flag-text, with-flag, flags-text, class-text, parent-text, hello-text, offer-text, stc-text, tree-status-text, message-text};
+ghost use Rattle.hello_groups.specs.Listed.{addresses};
+ghost use Rattle.std.specs.Of.String.{string-bytes};
+ghost use Rattle.std.specs.Vec.{made};
 use field::Address;
 use field::EnergyClass;
 use field::Flag;
 use field::Flags;
 use field::LinkCode;
-use frame::Hello;
+use frame::HelloFields;
 use frame::Message;
-use frame::Stc;
-use frame::TreeStatus;
+use frame::StcFields;
+use frame::TreeStatusFields;
 use hello_groups::Addresses;
 use hello_groups::AddressesIterator;
-use std::fmt;
+use std::alloc::AllocError;
+use std::alloc::Global;
 
-// Whether writing the message gives the octets that it was read from.
-pub fn is_rewritten(message: Message<'_>, octets: &[u8]) -> bool
-    ensures { λ r. ⌜ (Reads (now (octets .entry)) (Ok (message .entry)) → r ≡ true) ⌝ }
+pub fn describe(heap: Global, message: Message<'_>) -> Result<String, AllocError>
+    ensures { λ r. ⌜ made r (λ t. string-bytes t ≡ message-text (message .entry)) ⌝ }
 {
-    let mut out = [0; 43];
-    let Ok(len) = message.write(&mut out) else {
-        return false;
-    };
-    len <= 43 && &out[0..len] == octets
-}
-
-#[derive(Clone, Copy)]
-pub struct Shown<'a> {
-    pub message: Message<'a>,
-}
-
-pub impl<'a> fmt::Display for Shown<'a> as ShownDisplay {
-    fn fmt<W: fmt::Write>(&self, f: &mut fmt::Formatter<W>) -> fmt::Result {
-        match self.message {
-            Message::Hello(message) => show_hello(message, f),
-            Message::Stc(message) => show_stc(message, f),
-            Message::TreeStatus(message) => show_tree_status(message, f),
-        }
+    match message {
+        Message::Hello(message) => describe_hello(heap, message.fields()),
+        Message::Stc(message) => describe_stc(heap, message.fields()),
+        Message::TreeStatus(message) => describe_tree_status(heap, message.fields()),
     }
 }
 
-fn show_hello<W: fmt::Write>(message: Hello<'_>, f: &mut fmt::Formatter<W>) -> fmt::Result {
-    let fields = message.fields();
+fn describe_hello(heap: Global, fields: HelloFields<'_>) -> Result<String, AllocError>
+    ensures { λ r. ⌜ made r (λ t. string-bytes t ≡ hello-text (fields .entry)) ⌝ }
+{
     let sender = fields.sender.0;
     let number = fields.number;
     let vtime = fields.vtime;
     let class = class_name(fields.class);
-    write!(
-        f,
-        "Hello sender={sender} number={number} vtime={vtime} class={class} sym="
-    )?;
-    show_addresses(fields.groups.addresses(LinkCode::Sym), f)?;
-    f.write_str(" asym=")?;
-    show_addresses(fields.groups.addresses(LinkCode::Asym), f)
+    let sym = list_addresses(heap, fields.groups.addresses(LinkCode::Sym))?;
+    let asym = list_addresses(heap, fields.groups.addresses(LinkCode::Asym))?;
+    format!(
+        heap,
+        "Hello sender={sender} number={number} vtime={vtime} class={class} sym={sym} asym={asym}"
+    )
 }
 
-fn show_stc<W: fmt::Write>(message: Stc, f: &mut fmt::Formatter<W>) -> fmt::Result {
-    let fields = message.fields();
+fn describe_stc(heap: Global, fields: StcFields) -> Result<String, AllocError>
+    ensures { λ r. ⌜ made r (λ t. string-bytes t ≡ stc-text fields) ⌝ }
+{
+    let offer = describe_offer(heap, fields)?;
+    let vtime = fields.vtime;
+    let ttl = fields.ttl;
+    let flags = list_flags(heap, fields.flags)?;
+    let tree = fields.tree.0;
+    format!(
+        heap,
+        "{offer} vtime={vtime} ttl={ttl} flags={flags} tree={tree}"
+    )
+}
+
+fn describe_offer(heap: Global, fields: StcFields) -> Result<String, AllocError>
+    ensures { λ r. ⌜ made r (λ t. string-bytes t ≡ offer-text fields) ⌝ }
+{
     let sender = fields.sender.0;
     let wave = fields.wave.0;
     let root = fields.root.0;
     let cost = fields.cost;
-    write!(
-        f,
-        "STC sender={sender} wave={wave} root={root} cost={cost} parent="
-    )?;
-    match fields.parent {
-        Some(Address(parent)) => write!(f, "{parent}")?,
-        None => f.write_str("none")?,
-    }
-    let vtime = fields.vtime;
-    let ttl = fields.ttl;
-    write!(f, " vtime={vtime} ttl={ttl} flags=")?;
-    show_flags(fields.flags, f)?;
-    let tree = fields.tree.0;
-    write!(f, " tree={tree}")
+    let parent = name_parent(heap, fields.parent)?;
+    format!(
+        heap,
+        "STC sender={sender} wave={wave} root={root} cost={cost} parent={parent}"
+    )
 }
 
-fn show_tree_status<W: fmt::Write>(message: TreeStatus, f: &mut fmt::Formatter<W>) -> fmt::Result {
-    let fields = message.fields();
+fn describe_tree_status(heap: Global, fields: TreeStatusFields) -> Result<String, AllocError>
+    ensures { λ r. ⌜ made r (λ t. string-bytes t ≡ tree-status-text fields) ⌝ }
+{
     let sender = fields.sender.0;
     let wave = fields.wave.0;
     let root = fields.root.0;
     let tree = fields.tree.0;
     let descendants = fields.descendants;
-    write!(
-        f,
-        "TreeStatus sender={sender} wave={wave} root={root} tree={tree} descendants={descendants} flags="
-    )?;
-    show_flags(fields.flags, f)
+    let flags = list_flags(heap, fields.flags)?;
+    format!(
+        heap,
+        "TreeStatus sender={sender} wave={wave} root={root} tree={tree} descendants={descendants} flags={flags}"
+    )
 }
 
-fn show_addresses<W: fmt::Write>(
-    addresses: Addresses<'_>,
-    f: &mut fmt::Formatter<W>,
-) -> fmt::Result {
-    let mut any = false;
-    for address in addresses {
-        if any {
-            f.write_str(",")?;
-        }
-        let number = address.0;
-        write!(f, "{number}")?;
-        any = true;
+fn name_parent(heap: Global, parent: Option<Address>) -> Result<String, AllocError>
+    ensures { λ r. ⌜ made r (λ t. string-bytes t ≡ parent-text parent) ⌝ }
+{
+    match parent {
+        Some(Address(number)) => format!(heap, "{number}"),
+        None => String::from_str(heap, "none"),
     }
-    if !any {
-        f.write_str("none")?;
+}
+
+// One more item of a list, behind a comma unless it is the first.
+fn add_item(list: &mut String, item: &str) -> Result<(), AllocError>
+    ensures { λ r. ⌜ made r (λ _. string-bytes (now (list .exit)) ≡ with-item (string-bytes (now (list .entry))) (now (item .entry))) ⌝ }
+{
+    if list.is_empty() {
+        list.push_str(item)?;
+        return Ok(());
+    }
+    list.push_str(",")?;
+    list.push_str(item)?;
+    Ok(())
+}
+
+fn or_none(mut list: String) -> Result<String, AllocError>
+    ensures { λ r. ⌜ made r (λ t. string-bytes t ≡ or-none (string-bytes list)) ⌝ }
+{
+    if !list.is_empty() {
+        return Ok(list);
+    }
+    list.push_str("none")?;
+    Ok(list)
+}
+
+fn list_addresses(heap: Global, listed: Addresses<'_>) -> Result<String, AllocError>
+    ensures { λ r. ⌜ made r (λ t. string-bytes t ≡ addresses-text (addresses (listed .entry))) ⌝ }
+{
+    let mut list = String::new(heap);
+    let mut left = listed;
+    while let Some(Address(number)) = left.next() {
+        add_item(&mut list, format!(heap, "{number}")?.as_str())?;
+    }
+    or_none(list)
+}
+
+fn list_flags(heap: Global, flags: Flags) -> Result<String, AllocError>
+    ensures { λ r. ⌜ made r (λ t. string-bytes t ≡ flags-text (flags .0)) ⌝ }
+{
+    let mut list = String::new(heap);
+    add_flag(&mut list, flags, Flag::Coloured)?;
+    add_flag(&mut list, flags, Flag::Inconsistent)?;
+    add_flag(&mut list, flags, Flag::Stable)?;
+    add_flag(&mut list, flags, Flag::Unstable)?;
+    add_flag(&mut list, flags, Flag::TreeChange)?;
+    add_flag(&mut list, flags, Flag::NewNeighbour)?;
+    or_none(list)
+}
+
+fn add_flag(list: &mut String, flags: Flags, flag: Flag) -> Result<(), AllocError>
+    ensures { λ r. ⌜ made r (λ _. string-bytes (now (list .exit)) ≡ with-flag (flags .0) flag (string-bytes (now (list .entry)))) ⌝ }
+{
+    if flags.has(flag) {
+        add_item(list, flag_name(flag))?;
     }
     Ok(())
 }
 
-fn show_flags<W: fmt::Write>(flags: Flags, f: &mut fmt::Formatter<W>) -> fmt::Result {
-    let mut any = false;
-    for flag in FLAGS {
-        if flags.has(flag) {
-            if any {
-                f.write_str(",")?;
-            }
-            f.write_str(flag_name(flag))?;
-            any = true;
-        }
-    }
-    if !any {
-        f.write_str("none")?;
-    }
-    Ok(())
-}
-
-const FLAGS: [Flag; 6] = [
-    Flag::Coloured,
-    Flag::Inconsistent,
-    Flag::Stable,
-    Flag::Unstable,
-    Flag::TreeChange,
-    Flag::NewNeighbour,
-];
-
-fn flag_name(flag: Flag) -> &'static str {
+fn flag_name(flag: Flag) -> &'static str
+    ensures { λ r. ⌜ now r ≡ flag-text flag ⌝ }
+{
     match flag {
         Flag::Coloured => "coloured",
         Flag::Inconsistent => "inconsistent",
@@ -149,7 +164,9 @@ fn flag_name(flag: Flag) -> &'static str {
     }
 }
 
-fn class_name(class: EnergyClass) -> &'static str {
+fn class_name(class: EnergyClass) -> &'static str
+    ensures { λ r. ⌜ now r ≡ class-text class ⌝ }
+{
     match class {
         EnergyClass::High => "high",
         EnergyClass::Medium => "medium",

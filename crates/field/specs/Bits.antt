@@ -1,6 +1,5 @@
 -- The bits of the flags octet, counted from the lowest.
 use mathlib.Core.Bool.{Bool}
-use mathlib.Core.Path.{_≡_}
 use Prim.Native.Nat.{ℕ, _/_, _%_, _^_, _<_}
 use lib.Dec.{eqb}
 use Rattle.field.specs.declared.tree_flags.Flag.{Flag}

@@ -1,5 +1,4 @@
 ghost use mathlib.Core.Path.{_≡_};
-ghost use Prim.Native.Nat.{_≤_};
 ghost use Rattle.field.specs.Codes.{class-code, IsClass};
 ghost use Rattle.std.specs.Options.{Cases};
 

@@ -1,24 +1,20 @@
 -- What is written is read, and what is read is written.
 use mathlib.Core.List.{List, [], _∷_, _++_}
 use mathlib.Core.Path.{_≡_, refl, ap, sym, subst, _∙_}
-use Prim.Native.Nat.{ℕ, _+_, _*_, _/_, _%_, _≤_, _<_}
+use Prim.Native.Nat.{ℕ, _+_, _*_, _/_, _%_, _≤_}
 use native.Mathlib.Omega.{arith}
 use lib.ListN.{length, drop, length-append}
-use Rattle.std.specs.declared.result.Result.{Result}
 use Rattle.std.specs.declared.result.Result.the-variants.{Ok, Err}
 use Rattle.hello_groups.specs.Groups.{group}
 use Rattle.frame.specs.Octets.{octets, hello-octets, stc-fields, tree-status-fields}
-use Rattle.frame.specs.Reading.{Rule, Reads, Says, HelloFixed, stc-at, tree-status-at}
+use Rattle.frame.specs.Reading.{Rule, stc-at, tree-status-at}
 use Rattle.frame.specs.RoundTrip.{WrittenIsRead, ReadIsWritten, MessagesAreShort}
 use Rattle.frame.specs.Rules.{WellFormed, StcRules, TreeStatusRules}
 use Rattle.frame.specs.Values.{HelloValues, StcValues, TreeStatusValues, Values, hello, stc, tree-status, values}
 use Rattle.field.specs.Wide.{at, wide-at}
-use Rattle.frame.specs.Writing.{WritesMessage}
 use Rattle.frame.specs.declared.faults.ReadFault.{ReadFault}
 use Rattle.frame.specs.declared.faults.ReadFault.the-variants.{Short, UnknownKind, WrongSize, BadField, BadGroup}
-use Rattle.frame.specs.declared.faults.WriteFault.{WriteFault}
 use Rattle.frame.specs.declared.faults.WriteFault.the-variants.{OutputTooShort}
-use Rattle.frame.specs.declared.messages.Message.{Message}
 use Rattle.field.proofs.Wides.{length-wides}
 use Rattle.frame.proofs.Placed.{stc-same, tree-status-same}
 

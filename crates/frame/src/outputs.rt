@@ -1,4 +1,3 @@
-ghost use mathlib.Core.Path.{_≡_};
 ghost use Rattle.frame.specs.Writing.{Writes};
 use super::faults::WriteFault;
 

@@ -1,14 +1,13 @@
 -- The test for addresses that are given and distinct, and what it says.
 use mathlib.Core.Bool.{Bool, true, false, not, _&&_, _||_}
 use mathlib.Core.List.{List, [], _∷_, _++_}
-use mathlib.Core.Logic.{_⊎_, inl, inr}
 use mathlib.Core.Path.{_≡_, refl, ap, sym, _∙_}
 use Prim.Native.Nat.{ℕ, zero, suc, _≤_, _<_}
 use native.Mathlib.Omega.{arith}
 use lib.Dec.{eqb}
 use lib.ListN.{length, getD}
-use Rattle.std.proofs.shelf.Tests.{and-parts, and-from, or-parts, or-from, or-left, or-right, not-true, not-from-false, ne-eqb, eq-eqb, eqb-false, both-ways}
-use Rattle.hello_groups.specs.Groups.{stands-in, all-new}
+use Rattle.std.proofs.shelf.Tests.{and-parts, and-from, or-parts, or-from, not-true, not-from-false, ne-eqb, eqb-false}
+use Rattle.hello_groups.specs.Splitting.{stands-in, all-new}
 
 or-assoc : (a b c : Bool) → (a || (b || c)) ≡ ((a || b) || c)
 or-assoc true b c = refl

@@ -1,19 +1,19 @@
 -- Groups as octets, and the lists that they are read as.
-use mathlib.Core.Bool.{Bool, true, false, _&&_, cond}
+use mathlib.Core.Bool.{Bool, true, false, _&&_}
 use mathlib.Core.List.{List, [], _∷_, _++_}
 use mathlib.Core.Logic.{inl, inr}
 use mathlib.Core.Path.{_≡_, refl, ap, sym, _∙_, subst}
-use Prim.Native.Nat.{ℕ, zero, suc, _+_, _-_, _*_, _/_, _%_, _≤_, _<_}
+use Prim.Native.Nat.{ℕ, _+_, _-_, _*_, _/_, _%_, _≤_}
 use native.Mathlib.Omega.{arith}
 use lib.Dec.{eqb, leb}
-use lib.ListN.{length, getD, take, drop, length-append, length-drop}
-use lib.Seq.{drop-cons, getD-drop, getD-take}
-use Rattle.std.proofs.shelf.Lists.{append-nil, append-assoc, take-at, drop-at, take-append-drop, length-take-le, drop-drop, getD-past}
+use lib.ListN.{length, take, drop, length-append, length-drop}
+use Rattle.std.proofs.shelf.Lists.{append-nil, take-at, drop-at, take-append-drop, length-take-le, drop-drop}
 use Rattle.std.specs.Orderings.{When}
-use Rattle.std.proofs.shelf.Tests.{and-parts, and-from, and-left, and-right, cond-true, cond-false, cond-both, le-leb, lt-leb, eq-eqb, ne-eqb, leb-true, eqb-true, cases-bool, both-ways}
+use Rattle.std.proofs.shelf.Tests.{and-parts, and-from, and-right, cond-true, cond-false, cond-both, le-leb, eq-eqb, leb-true, eqb-true, cases-bool, both-ways}
 use Rattle.hello_groups.proofs.Distinct.{new-append, new-given, new-distinct, are-new}
 use Rattle.field.proofs.Wides.{Octets, octets-take, octets-drop, first-two, numbers-wides, length-wides, wides-numbers, length-numbers}
-use Rattle.hello_groups.specs.Groups.{group, groups, Listable, Grouped, is-size, begins, front, after, sym-in, asym-in, all-new, grouped}
+use Rattle.hello_groups.specs.Groups.{group, groups, Grouped}
+use Rattle.hello_groups.specs.Splitting.{is-size, begins, front, after, sym-octets, asym-octets, left-over, sym-in, asym-in, all-new}
 use Rattle.field.specs.Wide.{numbers, wides, at}
 
 -- ---- from lists to octets
@@ -74,23 +74,31 @@ module _ (s a : List ℕ) (few : length (s ++ a) ≤ 16) where
   unfolding asym-in
   asym-in-groups = ap numbers front-asym ∙ numbers-wides a
 
--- octets that are groups pass the test
-pub grouped-from : (xs : List ℕ) → Grouped xs → grouped xs ≡ true
-unfolding grouped
-grouped-from xs g =
+-- the tests that octets are groups, over the parts that they are split into
+unfoldable pub tests : List ℕ → List ℕ → List ℕ → Bool
+tests s a rest = eqb (length rest) 0 && (leb (length s + length a) 32 && (all-new (numbers s) (numbers a) && all-new (numbers a) []))
+
+abbrev tested : List ℕ → Bool
+tested xs = tests (sym-octets xs) (asym-octets xs) (left-over xs)
+
+-- octets that are groups pass them
+tested-from : (xs : List ℕ) → Grouped xs → tested xs ≡ true
+unfolding tests
+tested-from xs g =
     let s = g .0 in
     let a = g .1 in
     let rules = g .2 in
     let few = rules .few in
-    let new = new-append s a ∙ refl in
     let both = and-parts (all-new s a) (all-new a []) (sym (new-append s a) ∙ are-new (s ++ a) (rules .given) (rules .distinct)) in
-    let empty : eqb (length (after 2 (after 1 (groups s a)))) 0 ≡ true = rw (after-asym s a few) in
-    let count : leb (length (front 1 (groups s a)) + length (front 2 (after 1 (groups s a)))) 32 ≡ true =
-    rw (front-sym s a few, front-asym s a few) (le-leb _ _ (omega (arith, length-wides s, length-wides a, length-append s a))) in
-    let first : all-new (sym-in (groups s a)) (asym-in (groups s a)) ≡ true = rw (sym-in-groups s a few, asym-in-groups s a few) (both .0) in
-    let second : all-new (asym-in (groups s a)) [] ≡ true = rw (asym-in-groups s a few) (both .1) in
-    let all : grouped (groups s a) ≡ true = rw (empty, count, first, second) refl in
-    ap grouped (sym (g .3)) ∙ all
+    let count : leb (length (wides s) + length (wides a)) 32 ≡ true = le-leb _ _ (omega (arith, length-wides s, length-wides a, length-append s a)) in
+    let first : all-new (numbers (wides s)) (numbers (wides a)) ≡ true = rw (numbers-wides s, numbers-wides a) (both .0) in
+    let second : all-new (numbers (wides a)) [] ≡ true = rw (numbers-wides a) (both .1) in
+    let all : tests (wides s) (wides a) [] ≡ true = rw (count, first, second) refl in
+    ap tested (sym (g .3))
+    ∙ ap (λ l. tests l (asym-octets (groups s a)) (left-over (groups s a))) (front-sym s a few)
+    ∙ ap (λ l. tests (wides s) l (left-over (groups s a))) (front-asym s a few)
+    ∙ ap (tests (wides s) (wides a)) (after-asym s a few)
+    ∙ all
 
 -- ---- from octets to lists
 
@@ -161,23 +169,26 @@ half code xs =
       | inr none ↦ let none-in : front code xs ≡ [] = cond-false (begins code xs) _ _ none in rw none-in
     ]
 
--- octets that pass the test are groups
-pub grouped-says : (xs : List ℕ) → Octets xs → grouped xs ≡ true → Grouped xs
-unfolding grouped sym-in asym-in
-grouped-says xs octets test =
-    let s = numbers (front 1 xs) in
-    let a = numbers (front 2 (after 1 xs)) in
-    let empty = length (after 2 (after 1 xs)) in
-    let count = length (front 1 xs) + length (front 2 (after 1 xs)) in
+-- octets that pass the tests are groups
+tested-says : (xs : List ℕ) → Octets xs → tested xs ≡ true → Grouped xs
+unfolding tests
+tested-says xs octets test =
+    let s = numbers (sym-octets xs) in
+    let a = numbers (asym-octets xs) in
+    let empty = length (left-over xs) in
+    let count = length (sym-octets xs) + length (asym-octets xs) in
     let p = and-parts (eqb empty 0) (leb count 32 && (all-new s a && all-new a [])) test in
     let q = and-parts (leb count 32) (all-new s a && all-new a []) (p .1) in
     let new : all-new (s ++ a) [] ≡ true = new-append s a ∙ q .1 in
     let few : length (s ++ a) ≤ 16 = omega (arith, leb-true count 32 (q .0), half 1 xs, half 2 (after 1 xs), length-append s a) in
-    let none : after 2 (after 1 xs) ≡ [] = length-none (after 2 (after 1 xs)) (eqb-true empty 0 (p .0)) in
+    let none : left-over xs ≡ [] = length-none (left-over xs) (eqb-true empty 0 (p .0)) in
     let second : group 2 a ≡ after 1 xs =
     sym (append-nil (group 2 a)) ∙ ap (λ l. group 2 a ++ l) (sym none) ∙ rejoins 2 (after 1 xs) (after-octets 1 xs octets) in
     (s, a, record { few = few; given = new-given (s ++ a) new; distinct = new-distinct (s ++ a) new }, ap (λ l. group 1 s ++ l) second ∙ rejoins 1 xs octets)
 
-pub decides : (xs : List ℕ) → Octets xs → (r : Bool) → r ≡ grouped xs → When r (Grouped xs) (Grouped xs → ⊥)
-decides xs octets true e = grouped-says xs octets (sym e)
-decides xs octets false e = λ g. both-ways (grouped xs) (sym e) (grouped-from xs g)
+-- so the tests decide whether octets are groups
+pub decides : (xs s a rest : List ℕ) → Octets xs → s ≡ sym-octets xs → a ≡ asym-octets xs → rest ≡ left-over xs → (r : Bool) → r ≡ tests s a rest → When r (Grouped xs) (Grouped xs → ⊥)
+decides xs s a rest octets es ea er r e = go r (e ∙ cc) where
+  go : (r : Bool) → r ≡ tested xs → When r (Grouped xs) (Grouped xs → ⊥)
+  go true is = tested-says xs octets (sym is)
+  go false is = λ g. both-ways (tested xs) (sym is) (tested-from xs g)

@@ -1,14 +1,12 @@
 -- A scan over addresses goes from each to the octets behind it.
-use mathlib.Core.Bool.{Bool, true, false, _||_, _&&_, not}
-use mathlib.Core.List.{List, [], _∷_}
+use mathlib.Core.Bool.{_||_, _&&_, not}
+use mathlib.Core.List.{List}
 use mathlib.Core.Path.{_≡_, ap, sym, _∙_}
-use Prim.Native.Nat.{ℕ, _≤_, _<_}
-use native.Mathlib.Omega.{arith}
+use Prim.Native.Nat.{ℕ, _≤_}
 use lib.Dec.{eqb}
 use lib.ListN.{length, drop}
-use Rattle.std.proofs.shelf.Tests.{ne-eqb, eq-eqb}
 use Rattle.field.proofs.Wides.{numbers-more}
-use Rattle.hello_groups.specs.Groups.{stands-in, all-new}
+use Rattle.hello_groups.specs.Splitting.{stands-in, all-new}
 use Rattle.field.specs.Wide.{numbers, wide-at}
 
 pub holds-at : (a : ℕ) (xs : List ℕ) (x : ℕ) → 2 ≤ length xs → x ≡ wide-at xs 0 → stands-in a (numbers xs) ≡ (eqb x a || stands-in a (numbers (drop 2 xs)))

@@ -8,7 +8,7 @@ use Rattle.std.specs.declared.option.Option.the-variants.{Some, None}
 use Rattle.field.specs.declared.links.LinkCode.{LinkCode}
 use Rattle.field.specs.declared.links.LinkCode.the-variants.{Sym, Asym}
 use Rattle.field.specs.declared.numbers.Address.{Address}
-use Rattle.hello_groups.specs.Groups.{sym-in, asym-in}
+use Rattle.hello_groups.specs.Splitting.{sym-in, asym-in}
 use Rattle.field.specs.Wide.{numbers}
 use Rattle.hello_groups.specs.declared.listing.Addresses.{Addresses}
 

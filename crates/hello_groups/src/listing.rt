@@ -2,12 +2,14 @@ ghost use denote.Ref.{now};
 ghost use mathlib.Core.Path.{_≡_};
 ghost use lib.ListN.{length};
 ghost use Rattle.hello_groups.specs.Listed.{Takes, listed-as, addresses};
-ghost use Rattle.hello_groups.specs.Groups.{Grouped, stands-in, sym-in, asym-in};
+ghost use Rattle.hello_groups.specs.Groups.{Grouped};
+ghost use Rattle.hello_groups.specs.Splitting.{stands-in, sym-in, asym-in};
 ghost use mathlib.Core.List.{_++_};
 ghost use Rattle.std.specs.Orderings.{When};
+use super::scans::Parts;
 use super::scans::are_groups;
 use super::scans::holds;
-use super::scans::split_group;
+use super::scans::split;
 use field::Address;
 use field::LinkCode;
 
@@ -51,21 +53,17 @@ impl<'a> Groups<'a> {
     pub fn list(self, address: Address) -> bool
         ensures { λ r. ⌜ r ≡ stands-in (address .0) (sym-in (now (self .entry .0)) ++ asym-in (now (self .entry .0))) ⌝ }
     {
-        let (sym, rest) = split_group(self.0, LinkCode::Sym);
-        let (asym, _) = split_group(rest, LinkCode::Asym);
+        let Parts { sym, asym, .. } = split(self.0);
         holds(sym, address.0) || holds(asym, address.0)
     }
 
     pub fn addresses(self, code: LinkCode) -> Addresses<'a>
         ensures { λ r. ⌜ addresses r ≡ listed-as code (now (self .entry .0)) ⌝ }
     {
-        let (sym, rest) = split_group(self.0, LinkCode::Sym);
+        let Parts { sym, asym, .. } = split(self.0);
         match code {
             LinkCode::Sym => Addresses { octets: sym },
-            LinkCode::Asym => {
-                let (asym, _) = split_group(rest, LinkCode::Asym);
-                Addresses { octets: asym }
-            }
+            LinkCode::Asym => Addresses { octets: asym },
         }
     }
 }

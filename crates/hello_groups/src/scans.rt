@@ -3,7 +3,8 @@ ghost use mathlib.Core.Path.{_≡_};
 ghost use Prim.Native.Nat.{_<_};
 ghost use lib.ListN.{length};
 ghost use Rattle.field.specs.Codes.{link-code};
-ghost use Rattle.hello_groups.specs.Groups.{is-size, front, after, stands-in, all-new, Grouped};
+ghost use Rattle.hello_groups.specs.Groups.{Grouped};
+ghost use Rattle.hello_groups.specs.Splitting.{is-size, front, after, sym-octets, asym-octets, left-over, stands-in, all-new};
 ghost use Rattle.field.specs.Wide.{numbers};
 ghost use Rattle.std.specs.Orderings.{When};
 use field::LinkCode;
@@ -18,7 +19,7 @@ fn is_size(size: usize, most: usize) -> bool
 }
 
 // The addresses of the group of this code at the front, and the octets behind it.
-pub fn split_group(octets: &[u8], code: LinkCode) -> (&[u8], &[u8])
+fn split_group(octets: &[u8], code: LinkCode) -> (&[u8], &[u8])
     ensures front { λ r. ⌜ now (r .0) ≡ front (link-code code) (now (octets .entry)) ⌝ }
     ensures behind { λ r. ⌜ now (r .1) ≡ after (link-code code) (now (octets .entry)) ⌝ }
     ensures short { λ r. ⌜ length (now (r .0)) < 256 ⌝ }
@@ -29,6 +30,25 @@ pub fn split_group(octets: &[u8], code: LinkCode) -> (&[u8], &[u8])
         }
         _ => (&octets[0..0], octets),
     }
+}
+
+// The octets of the addresses of each code, and those behind both groups.
+#[derive(Clone, Copy)]
+pub struct Parts<'a> {
+    pub sym: &'a [u8],
+    pub asym: &'a [u8],
+    pub rest: &'a [u8],
+}
+
+pub fn split(octets: &[u8]) -> Parts<'_>
+    ensures sym { λ r. ⌜ now (r .sym) ≡ sym-octets (now (octets .entry)) ⌝ }
+    ensures asym { λ r. ⌜ now (r .asym) ≡ asym-octets (now (octets .entry)) ⌝ }
+    ensures rest { λ r. ⌜ now (r .rest) ≡ left-over (now (octets .entry)) ⌝ }
+    ensures short { λ r. ⌜ length (now (r .sym)) < 256 ⌝ ∗ ⌜ length (now (r .asym)) < 256 ⌝ }
+{
+    let (sym, rest) = split_group(octets, LinkCode::Sym);
+    let (asym, rest) = split_group(rest, LinkCode::Asym);
+    Parts { sym, asym, rest }
 }
 
 // Whether the address is one of those that the octets hold.
@@ -64,8 +84,7 @@ fn are_new(octets: &[u8], others: &[u8]) -> bool
 pub fn are_groups(octets: &[u8]) -> bool
     ensures { λ r. ⌜ When r (Grouped (now (octets .entry))) (Grouped (now (octets .entry)) → ⊥) ⌝ }
 {
-    let (sym, rest) = split_group(octets, LinkCode::Sym);
-    let (asym, rest) = split_group(rest, LinkCode::Asym);
+    let Parts { sym, asym, rest } = split(octets);
     if !rest.is_empty() || sym.len() + asym.len() > 2 * MOST_ADDRESSES || !are_new(sym, asym) {
         return false;
     }

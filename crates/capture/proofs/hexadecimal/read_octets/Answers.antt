@@ -19,7 +19,7 @@ pub loop-left-again : need.loop-left-again
 loop-left-again c =
     let xs = c .loop-left .left .now in
     let two : 2 ≤ length xs = search needs in
-    octet-turn xs (vec-items (c .loop-left .octets)) (spelt (c .args .line .now)) two (sym (c .if-is-blank .ensures tt)) (c .loop-left .inv) (c .in-Some .octet) _ _ (c .in-Some .ensures tt) (c .in-Continue-push .ensures tt .items) (take-rest xs 2)
+    octet-turn xs (vec-items (c .loop-left .octets)) (spelt (c .args .line .now)) two (sym (c .if-is-blank .ensures tt)) (c .loop-left .inv) (c .in-Some .octet) (vec-items (c .push .last .self)) _ (c .in-Some .ensures tt) (c .in-Continue-push .ensures tt .items) (take-rest xs 2)
 
 pub returns-in-rest-octet-of : need.returns-in-rest-octet-of
 returns-in-rest-octet-of c =

@@ -1,7 +1,6 @@
-use mathlib.Core.Bool.{Bool, true, false, _||_}
+use mathlib.Core.Bool.{true, false, _||_}
 use mathlib.Core.Path.{_≡_, ap, sym, _∙_}
 use borrow.Author.Needs.{needs}
-use native.Mathlib.Omega.{arith}
 use Prim.Native.Nat.{_≤_, _-_}
 use lib.Dec.{eqb}
 use lib.ListN.{length, take, drop}
@@ -10,7 +9,7 @@ use Rattle.std.proofs.shelf.Tests.{ne-eqb, eq-eqb, or-left, or-right}
 use Rattle.hello_groups.proofs.Steps.{new-at}
 use Rattle.hello_groups.proofs.scans.are_new.Needs as need
 use Rattle.hello_groups.proofs.scans.are_new.Needs.{then-address-eq0·by·then-address-eq0, then-address-eq0·by·else-address-eq0·then-holds, then-address-eq0·by·else-address-eq0·else-holds·then-holds-2}
-use Rattle.hello_groups.specs.Groups.{stands-in, all-new}
+use Rattle.hello_groups.specs.Splitting.{stands-in, all-new}
 use Rattle.field.specs.Wide.{numbers}
 
 -- one of the three tests stops the scan

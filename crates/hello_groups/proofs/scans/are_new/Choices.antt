@@ -1,6 +1,6 @@
 use mathlib.Core.Path.{_≡_}
 use lib.ListN.{length}
-use Rattle.hello_groups.specs.Groups.{all-new}
+use Rattle.hello_groups.specs.Splitting.{all-new}
 use Rattle.field.specs.Wide.{numbers}
 use Rattle.hello_groups.proofs.scans.are_new.Given as given
 

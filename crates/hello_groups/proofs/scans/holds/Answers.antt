@@ -8,7 +8,7 @@ use Rattle.std.proofs.shelf.Lists.{take-rest}
 use Rattle.std.proofs.shelf.Tests.{ne-eqb}
 use Rattle.hello_groups.proofs.Steps.{holds-at}
 use Rattle.hello_groups.proofs.scans.holds.Needs as need
-use Rattle.hello_groups.specs.Groups.{stands-in}
+use Rattle.hello_groups.specs.Splitting.{stands-in}
 use Rattle.field.specs.Wide.{numbers}
 
 pub loop-left-again : need.loop-left-again

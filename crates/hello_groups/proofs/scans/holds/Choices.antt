@@ -1,6 +1,6 @@
 use mathlib.Core.Path.{_≡_}
 use lib.ListN.{length}
-use Rattle.hello_groups.specs.Groups.{stands-in}
+use Rattle.hello_groups.specs.Splitting.{stands-in}
 use Rattle.field.specs.Wide.{numbers}
 use Rattle.hello_groups.proofs.scans.holds.Given as given
 

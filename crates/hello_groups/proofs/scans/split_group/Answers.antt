@@ -8,7 +8,7 @@ use lib.ListN.{length, drop, length-take}
 use Rattle.std.proofs.shelf.Lists.{take-rest}
 use Rattle.std.proofs.shelf.Tests.{and-from, le-leb, eq-eqb, cond-true}
 use Rattle.field.specs.Codes.{link-code}
-use Rattle.hello_groups.specs.Groups.{begins, is-size}
+use Rattle.hello_groups.specs.Splitting.{begins, is-size}
 use Rattle.field.specs.Wide.{at}
 use Rattle.hello_groups.proofs.scans.split_group.Needs as need
 

@@ -9,7 +9,7 @@ use Rattle.std.proofs.shelf.Lists.{append-assoc, take-at, drop-at, drop-drop}
 use Rattle.std.specs.declared.result.Result.the-variants.{Ok}
 use Rattle.frame.specs.Octets.{hello-octets}
 use Rattle.frame.specs.Values.{HelloValues}
-use Rattle.field.specs.Wide.{at, wide}
+use Rattle.field.specs.Wide.{wide}
 use Rattle.frame.specs.Writing.{WritesMessage}
 use Rattle.field.proofs.Wides.{headed, wide-from}
 use Rattle.frame.proofs.hellos.Hello.write.Needs as need

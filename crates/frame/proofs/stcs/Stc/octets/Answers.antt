@@ -1,5 +1,5 @@
 use mathlib.Core.List.{_∷_, []}
-use mathlib.Core.Path.{_≡_, refl, ap, _∙_}
+use mathlib.Core.Path.{refl, ap, _∙_}
 use Rattle.field.specs.Wide.{wide}
 use Rattle.field.proofs.Wides.{headed, wide-from}
 use Rattle.frame.proofs.stcs.Stc.octets.Needs as need

@@ -1,7 +1,7 @@
 use mathlib.Core.Path.{_≡_, refl, ap, _∙_}
 use borrow.Author.Needs.{needs}
 use native.Mathlib.Omega.{arith}
-use Prim.Native.Nat.{ℕ, _≤_, _<_}
+use Prim.Native.Nat.{_≤_, _<_}
 use lib.ListN.{length}
 use Rattle.field.proofs.Fields.{number-of-address}
 use Rattle.field.specs.Addresses.{number-or-0}
@@ -9,7 +9,7 @@ use Rattle.frame.specs.Octets.{stc-fields}
 use Rattle.frame.specs.Reading.{stc-at}
 use Rattle.frame.specs.Rules.{StcRules}
 use Rattle.frame.specs.Values.{stc-values}
-use Rattle.field.specs.Wide.{at, wide-at}
+use Rattle.field.specs.Wide.{wide-at}
 use Rattle.frame.specs.declared.stcs.Stc.{Stc}
 use Rattle.frame.proofs.Made.{reads-made}
 use Rattle.field.proofs.Wides.{Octets}

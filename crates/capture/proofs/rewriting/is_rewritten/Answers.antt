@@ -1,23 +1,20 @@
-use mathlib.Core.Bool.{true, false}
 use mathlib.Core.List.{List, _++_}
-use mathlib.Core.Path.{_≡_, refl, ap, sym, _∙_}
-use borrow.Author.Needs.{needs}
+use mathlib.Core.Path.{_≡_, refl, ap, _∙_}
 use native.Mathlib.Omega.{arith}
 use Prim.Native.Nat.{ℕ, _-_}
 use lib.ListN.{length, drop, take}
 use Rattle.std.proofs.shelf.Equals.{matches-decides}
 use Rattle.std.proofs.shelf.Lists.{take-at}
 use Rattle.std.specs.declared.result.Result.{Result}
-use Rattle.std.specs.declared.result.Result.the-variants.{Ok, Err}
+use Rattle.std.specs.declared.result.Result.the-variants.{Ok}
 use Rattle.frame.specs.Octets.{octets}
 use Rattle.frame.specs.Reading.{Reads}
-use Rattle.frame.specs.Rules.{WellFormed}
 use Rattle.frame.specs.Values.{values}
 use Rattle.frame.specs.Writing.{WritesMessage}
 use Rattle.frame.specs.declared.faults.WriteFault.{WriteFault}
 use Rattle.frame.specs.declared.messages.Message.{Message}
 use Rattle.frame.proofs.RoundTrips.{read-is-written, messages-are-short}
-use Rattle.capture.proofs.texts.is_rewritten.Needs as need
+use Rattle.capture.proofs.rewriting.is_rewritten.Needs as need
 
 -- a message that was read fits an output of 43 octets, and fills its front with what it was read from
 rewritten : (xs before now : List ℕ) (m : Message) (r : Result ℕ WriteFault) → length before ≡ 43 → WritesMessage (octets (values m)) before now r → Reads xs (Ok m) → (r ≡ Ok (length xs)) × (now ≡ xs ++ drop (length xs) before)
