@@ -1,2 +1,1 @@
-pub mod Itemized
 pub mod Spelling

@@ -13,7 +13,7 @@ use Rattle.frame.specs.Reading.{Reads}
 use Rattle.frame.specs.declared.faults.ReadFault.{ReadFault}
 use Rattle.frame.specs.declared.messages.Message.{Message}
 use Rattle.capture.specs.Hexadecimal.{spelt}
-use Rattle.capture.specs.Texts.{message-text}
+use Rattle.message_text.specs.Texts.{message-text}
 use Rattle.capture.specs.declared.lines.Inspected.{Inspected}
 use Rattle.capture.specs.declared.lines.Inspected.the-variants as inspected
 

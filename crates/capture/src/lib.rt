@@ -2,7 +2,6 @@
 mod hexadecimal;
 mod lines;
 mod rewriting;
-mod texts;
 
 pub use hexadecimal::read_octets;
 pub use lines::Inspected;

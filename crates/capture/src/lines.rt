@@ -3,7 +3,7 @@ ghost use Rattle.std.specs.Vec.{made};
 ghost use Rattle.std.specs.declared.option.Option.the-variants.{Some};
 use super::hexadecimal::read_octets;
 use super::rewriting::compare;
-use super::texts::describe;
+use message_text::describe;
 use std::alloc::AllocError;
 use std::alloc::Global;
 use std::fmt;

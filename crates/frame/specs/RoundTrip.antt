@@ -29,8 +29,8 @@ ReadIsWritten =
 abbrev pub MessagesAreShort : Type 0
 MessagesAreShort = (v : Values) → WellFormed v → length (octets v) ≤ 43
 
--- the first word of root 10, where trees are held for 120 seconds
-abbrev pub FirstWord : Type 0
-FirstWord =
+-- the first STC of root 10, where trees are held for 120 seconds
+abbrev pub FirstStc : Type 0
+FirstStc =
     octets (stc (record { sender = 10; wave = 1; root = 10; cost = 0; parent = 0; vtime = 120; ttl = 32; flags = 0; tree = 0 }))
     ≡ 0x02 ∷ 0x11 ∷ 0x00 ∷ 0x0A ∷ 0x00 ∷ 0x01 ∷ 0x00 ∷ 0x0A ∷ 0x00 ∷ 0x00 ∷ 0x00 ∷ 0x00 ∷ 0x78 ∷ 0x20 ∷ 0x00 ∷ 0x00 ∷ 0x00 ∷ []

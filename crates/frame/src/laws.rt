@@ -1,5 +1,5 @@
 // Each function here stands for the theorem in its contract, and does nothing.
-ghost use Rattle.frame.specs.RoundTrip.{WrittenIsRead, ReadIsWritten, MessagesAreShort, FirstWord};
+ghost use Rattle.frame.specs.RoundTrip.{WrittenIsRead, ReadIsWritten, MessagesAreShort, FirstStc};
 
 pub fn written_is_read()
     ensures { λ _. ⌜ WrittenIsRead ⌝ }
@@ -13,6 +13,6 @@ pub fn messages_are_short()
     ensures { λ _. ⌜ MessagesAreShort ⌝ }
 {}
 
-pub fn first_word_of_a_root()
-    ensures { λ _. ⌜ FirstWord ⌝ }
+pub fn first_stc_of_a_root()
+    ensures { λ _. ⌜ FirstStc ⌝ }
 {}

@@ -11,7 +11,7 @@ pub use faults::ReadFault;
 pub use faults::WriteFault;
 pub use hellos::Hello;
 pub use hellos::HelloFields;
-pub use laws::first_word_of_a_root;
+pub use laws::first_stc_of_a_root;
 pub use laws::messages_are_short;
 pub use laws::read_is_written;
 pub use laws::written_is_read;

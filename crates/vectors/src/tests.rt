@@ -7,8 +7,8 @@ use frame::read;
 use hello_groups::AddressesIterator;
 use std::test::*;
 
-// The first word of root 10, where trees are held for 120 seconds.
-const WORD: [u8; 17] = [
+// The first STC of root 10, where trees are held for 120 seconds.
+const FIRST_STC: [u8; 17] = [
     0x02,
     0x11,
     0x00,
@@ -30,23 +30,23 @@ const WORD: [u8; 17] = [
 
 #[test]
 fn writing_fills_the_front_or_alters_nothing() -> Result<(), Fail> {
-    let Ok(message) = read(&WORD) else {
+    let Ok(message) = read(&FIRST_STC) else {
         return Err(Fail::new("no message"));
     };
     let mut out = [0xEE; 20];
     check(message.write(&mut out[0..16]).is_err())?;
     check(out == [0xEE; 20])?;
     check(message.write(&mut out[0..17]).is_ok())?;
-    check(&out[0..17] == &WORD[0..17])?;
+    check(&out[0..17] == &FIRST_STC[0..17])?;
     check(&out[17..20] == &[0xEE; 3][0..3])
 }
 
 #[test]
 fn fields_that_break_a_rule_make_no_message() -> Result<(), Fail> {
-    let Ok(Message::Stc(word)) = read(&WORD) else {
+    let Ok(Message::Stc(stc)) = read(&FIRST_STC) else {
         return Err(Fail::new("no STC"));
     };
-    let fields = word.fields();
+    let fields = stc.fields();
     check(Stc::new(fields).is_ok())?;
     check(Stc::new(StcFields { ttl: 33, ..fields }).is_err())
 }

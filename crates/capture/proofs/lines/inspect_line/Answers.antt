@@ -4,7 +4,7 @@ use lib.Chars.{codes}
 use Rattle.std.specs.Of.Vec.{vec-items}
 use Rattle.std.specs.Options.{mapped}
 use Rattle.std.specs.declared.option.Option.the-variants.{Some}
-use Rattle.capture.specs.Texts.{message-text}
+use Rattle.message_text.specs.Texts.{message-text}
 use Rattle.capture.proofs.lines.inspect_line.Needs as need
 
 pub returns-in-Ok : need.returns-in-Ok

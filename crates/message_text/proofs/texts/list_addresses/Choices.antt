@@ -3,8 +3,8 @@ use lib.ListN.{length}
 use denote.Ref.{now}
 use Rattle.std.specs.Of.String.{string-bytes}
 use Rattle.hello_groups.specs.Listed.{addresses}
-use Rattle.capture.specs.Texts.{with-addresses}
-use Rattle.capture.proofs.texts.list_addresses.Given as given
+use Rattle.message_text.specs.Texts.{with-addresses}
+use Rattle.message_text.proofs.texts.list_addresses.Given as given
 
 -- the list so far, and then the addresses that are left, is the whole list
 abbrev pub Inv-loop-number : given.InvT-loop-number

@@ -1,6 +1,6 @@
 use Rattle.std.proofs.shelf.Results.{made-weaker}
-use Rattle.capture.specs.Texts.{tree-status-text}
-use Rattle.capture.proofs.texts.describe_tree_status.Needs as need
+use Rattle.message_text.specs.Texts.{tree-status-text}
+use Rattle.message_text.proofs.texts.describe_tree_status.Needs as need
 
 pub returns : need.returns
 unfolding tree-status-text

@@ -1,6 +1,5 @@
-// Messages as text: the kind, then each field by name.
 ghost use mathlib.Core.Path.{_≡_};
-ghost use Rattle.capture.specs.Texts.{with-item, or-none, addresses-text, flag-text, with-flag, flags-text, class-text, parent-text, hello-text, offer-text, stc-text, tree-status-text, message-text};
+ghost use Rattle.message_text.specs.Texts.{with-item, or-none, addresses-text, flag-text, with-flag, flags-text, class-text, parent-text, hello-text, offer-text, stc-text, tree-status-text, message-text};
 ghost use Rattle.hello_groups.specs.Listed.{addresses};
 ghost use Rattle.std.specs.Of.String.{string-bytes};
 ghost use Rattle.std.specs.Vec.{made};

@@ -1,6 +1,6 @@
 use Rattle.std.proofs.shelf.Results.{made-weaker}
-use Rattle.capture.specs.Texts.{stc-text}
-use Rattle.capture.proofs.texts.describe_stc.Needs as need
+use Rattle.message_text.specs.Texts.{stc-text}
+use Rattle.message_text.proofs.texts.describe_stc.Needs as need
 
 pub returns : need.returns
 unfolding stc-text

@@ -1,6 +1,6 @@
 use Rattle.std.proofs.shelf.Results.{made-weaker}
-use Rattle.capture.specs.Texts.{offer-text}
-use Rattle.capture.proofs.texts.describe_offer.Needs as need
+use Rattle.message_text.specs.Texts.{offer-text}
+use Rattle.message_text.proofs.texts.describe_offer.Needs as need
 
 pub returns : need.returns
 unfolding offer-text

@@ -1,7 +1,7 @@
 use mathlib.Core.Path.{ap, _∙_}
 use Rattle.std.proofs.shelf.Results.{made-weaker}
-use Rattle.capture.specs.Texts.{addresses-text, hello-text}
-use Rattle.capture.proofs.texts.describe_hello.Needs as need
+use Rattle.message_text.specs.Texts.{addresses-text, hello-text}
+use Rattle.message_text.proofs.texts.describe_hello.Needs as need
 
 pub returns : need.returns
 unfolding hello-text
