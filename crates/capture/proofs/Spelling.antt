@@ -2,7 +2,7 @@
 use mathlib.Core.Bool.{true, false}
 use mathlib.Core.List.{List, [], _∷_, _++_}
 use mathlib.Core.Path.{_≡_, refl, ap, sym, _∙_}
-use Prim.Native.Nat.{ℕ, _+_, _≤_, _<_}
+use Prim.Native.Nat.{ℕ, _+_, _≤_}
 use native.Mathlib.Omega.{arith}
 use lib.ListN.{length, drop}
 use Rattle.std.proofs.shelf.Lists.{append-assoc}
@@ -16,23 +16,10 @@ use Rattle.capture.specs.Hexadecimal.{blank, digit, octet, led-by, spelt}
 abbrev pub ahead : List ℕ → Option (List ℕ) → Option (List ℕ)
 ahead before left = mapped (λ (l : List ℕ). before ++ l) left
 
-pub nothing-ahead : (left : Option (List ℕ)) → left ≡ ahead [] left
-nothing-ahead (Some l) = refl
-nothing-ahead None = refl
-
-pub spelt-none : (xs : List ℕ) → length xs < 1 → spelt xs ≡ Some []
-spelt-none [] h = refl
-spelt-none (c ∷ rest) h = absurd (omega arith)
-
 pub spelt-blank : (xs : List ℕ) → 1 ≤ length xs → blank (at xs 0) ≡ true → spelt xs ≡ spelt (drop 1 xs)
 spelt-blank [] h b = absurd (omega arith)
 spelt-blank (c ∷ []) h b = rw b
 spelt-blank (c ∷ d ∷ rest) h b = rw b
-
-pub spelt-half : (xs : List ℕ) → length xs ≡ 1 → blank (at xs 0) ≡ false → spelt xs ≡ None
-spelt-half [] h b = absurd (omega arith)
-spelt-half (c ∷ []) h b = rw b
-spelt-half (c ∷ d ∷ rest) h b = absurd (omega arith)
 
 pub spelt-more : (xs : List ℕ) → 2 ≤ length xs → blank (at xs 0) ≡ false → spelt xs ≡ led-by (octet (digit (at xs 0)) (digit (at xs 1))) (spelt (drop 2 xs))
 spelt-more [] h b = absurd (omega arith)

@@ -29,7 +29,7 @@ led-by (Some o) (Some rest) = Some (o ∷ rest)
 led-by (Some o) None = None
 led-by None rest = None
 
--- the octets that a line spells, if it spells any
+-- the octets that a line spells, if it is a list of octets
 abbrev pub spelt : List ℕ → Option (List ℕ)
 spelt [] = Some []
 spelt (c ∷ []) = cond (blank c) (Some []) None

@@ -17,7 +17,7 @@ use Rattle.message_text.specs.Texts.{message-text}
 use Rattle.capture.specs.declared.lines.Inspected.{Inspected}
 use Rattle.capture.specs.declared.lines.Inspected.the-variants as inspected
 
--- a line that spells a message, one that spells none, and one that spells no octets
+-- a line whose octets are a message; one that is no list of octets; one whose octets are refused
 abbrev pub Inspects : List ℕ → Inspected → Type 0
 Inspects line (inspected.Message text) =
     (xs : List ℕ) × (m : Message) × (spelt line ≡ Some xs) × Reads xs (Ok m) × (string-bytes text ≡ message-text m ++ codes " rewritten=same")
