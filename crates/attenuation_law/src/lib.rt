@@ -1,4 +1,6 @@
 // A cost law of a stranger's own, under the interface of `law`: a way costs the sendings that its links make needful. No heap.
+#![tactic(auto)]
+
 ghost use Rattle.std.specs.Prelude.{◌≤◌};
 ghost use Rattle.attenuation_law.specs.Sendings.{attenuation, attenuated, sendings};
 ghost use Rattle.law.specs.Rules.{as_cost_rise, as_cost_order};

@@ -1,4 +1,6 @@
 // Captured messages: lines of hexadecimal octets, and what is shown of them.
+#![tactic(auto)]
+
 mod hexadecimal;
 mod lines;
 mod rewriting;

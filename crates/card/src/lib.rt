@@ -1,4 +1,6 @@
 // A record as the octets that a gauge keeps between calls. No heap.
+#![tactic(auto)]
+
 mod cards;
 mod laws;
 mod listed;

@@ -1,4 +1,6 @@
 // Captured lines of cards and of messages, and what is shown of them.
+#![tactic(auto)]
+
 mod lines;
 mod rewriting;
 

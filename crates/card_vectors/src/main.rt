@@ -1,4 +1,6 @@
 // Tries lines of cards that were worked out by hand: a row says what it tries, the line, and what it is to be shown as.
+#![tactic(auto)]
+
 use card_lines::inspect;
 use std::io;
 use std::io::{BufRead, BufReader};

@@ -1,4 +1,6 @@
 // The values of the fields of messages.
+#![tactic(auto)]
+
 mod classes;
 mod kinds;
 mod links;

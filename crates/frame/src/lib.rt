@@ -1,4 +1,6 @@
 // The three messages of the protocol, read from octets and written back without loss. No heap.
+#![tactic(auto)]
+
 mod faults;
 mod hellos;
 mod laws;

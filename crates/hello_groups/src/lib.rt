@@ -1,4 +1,6 @@
 // The groups of a Hello: the addresses that its sender hears, under the code of the link to each. No heap.
+#![tactic(auto)]
+
 mod laws;
 mod listing;
 mod scans;

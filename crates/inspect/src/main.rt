@@ -1,4 +1,6 @@
 // Shows captured messages, a line of hexadecimal octets each.
+#![tactic(auto)]
+
 use capture::{Inspected, inspect_line};
 use std::io;
 use std::io::{BufRead, BufReader};

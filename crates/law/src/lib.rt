@@ -1,4 +1,6 @@
 // What a link costs the node that hears over it: the interface of cost laws, and two laws. No heap.
+#![tactic(auto)]
+
 mod cost_law;
 mod costs;
 mod energy;

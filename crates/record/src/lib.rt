@@ -1,4 +1,6 @@
 // What a node is set to and what it remembers, brought to a time. No heap.
+#![tactic(auto)]
+
 mod faults;
 mod laws;
 mod limits;

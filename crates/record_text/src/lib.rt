@@ -1,4 +1,6 @@
 // Records as text: each field by name, then the rows.
+#![tactic(auto)]
+
 mod rows;
 mod texts;
 

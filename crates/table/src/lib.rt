@@ -1,4 +1,6 @@
 // A list of at most N rows, kept in place: no heap.
+#![tactic(auto)]
+
 mod filters;
 mod keys;
 mod tables;

@@ -1,4 +1,6 @@
 // Tries lines that were worked out by hand: a row says what it tries, the line, and what it is to be shown as.
+#![tactic(auto)]
+
 use capture::inspect_line;
 use std::io;
 use std::io::{BufRead, BufReader};
