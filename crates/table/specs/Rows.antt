@@ -1,5 +1,5 @@
 -- What a table holds, as a list.
-use Rattle.std.specs.Prelude.{◌≡◌, ℕ, List, take, slice_set}
+use Rattle.std.specs.Prelude.{ℕ, List, take, slice_set}
 use Rattle.std.proofs.Common.{◌∙◌, length-set}
 use Rattle.table.specs.declared.tables.Table.{Table}
 
