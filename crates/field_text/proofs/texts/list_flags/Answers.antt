@@ -9,13 +9,13 @@ unfolding flags_text
 returns c =
     let add = with_flag c.args.flags.0 in
     let all =
-    c.in-ok-add-flag-6.ensures
+    c.in_ok-add_flag-6.ensures
     ∙ ap (add NewNeighbour)
-    (c.in-ok-add-flag-5.ensures
+    (c.in_ok-add_flag-5.ensures
     ∙ ap (add TreeChange)
-    (c.in-ok-add-flag-4.ensures
+    (c.in_ok-add_flag-4.ensures
     ∙ ap (add Unstable)
-    (c.in-ok-add-flag-3.ensures
+    (c.in_ok-add_flag-3.ensures
     ∙ ap (add Stable)
-    (c.in-ok-add-flag-2.ensures ∙ ap (add Inconsistent) (c.in-ok-add-flag.ensures ∙ ap (add Coloured) c.new-list.ensures.bytes))))) in
+    (c.in_ok-add_flag-2.ensures ∙ ap (add Inconsistent) (c.in_ok-add_flag.ensures ∙ ap (add Coloured) c.new-list.ensures.bytes))))) in
     IfOk-weaker c.or_none.result _ _ (λ t e. e ∙ ap or_none all) c.or_none.ensures
