@@ -1,5 +1,5 @@
 -- Fields at their places, and the octets that they are written as.
-use Rattle.std.proofs.Common.{◌≡◌, ℕ, List, [], ◌∷◌, length, drop, sym, refl, ap, ◌∙◌, arith}
+use Rattle.std.proofs.Common.{◌≡◌, ℕ, List, [], ◌∷◌, length, drop, sym, ap, ◌∙◌, arith}
 use Rattle.std.proofs.lemmas.List.{drop_all}
 use Rattle.frame.specs.Octets.{stc_fields, tree_status_fields}
 use Rattle.frame.specs.Reading.{stc_at, tree_status_at}

@@ -6,6 +6,6 @@ use Rattle.message_text.proofs.texts.describe_hello.Goals as goal
 pub returns : goal.returns
 unfolding hello_text
 returns c =
-    let sym = c.in-ok-sym.ensures ∙ ap addresses_text c.addresses.ensures in
-    let asym = c.in-ok-asym.ensures ∙ ap addresses_text c.addresses-2.ensures in
-    IfOk-weaker c.format.result _ _ (λ t e. rw (← sym, ← asym, ← c.class-name-class.ensures) e) c.format.ensures.ok
+    let sym = c.in_ok-sym.ensures ∙ ap addresses_text c.addresses.ensures in
+    let asym = c.in_ok-asym.ensures ∙ ap addresses_text c.addresses-2.ensures in
+    IfOk-weaker c.format.result _ _ (λ t e. rw (← sym, ← asym, ← c.class_name-class.ensures) e) c.format.ensures.ok

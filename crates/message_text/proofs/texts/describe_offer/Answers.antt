@@ -4,4 +4,4 @@ use Rattle.message_text.proofs.texts.describe_offer.Goals as goal
 
 pub returns : goal.returns
 unfolding offer_text
-returns c = IfOk-weaker c.format.result _ _ (λ t e. rw (← c.in-ok-parent.ensures) e) c.format.ensures.ok
+returns c = IfOk-weaker c.format.result _ _ (λ t e. rw (← c.in_ok-parent.ensures) e) c.format.ensures.ok

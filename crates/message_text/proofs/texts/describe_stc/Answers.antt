@@ -4,4 +4,4 @@ use Rattle.message_text.proofs.texts.describe_stc.Goals as goal
 
 pub returns : goal.returns
 unfolding stc_text
-returns c = IfOk-weaker c.format.result _ _ (λ t e. rw (← c.in-ok-offer.ensures, ← c.in-ok-flags.ensures) e) c.format.ensures.ok
+returns c = IfOk-weaker c.format.result _ _ (λ t e. rw (← c.in_ok-offer.ensures, ← c.in_ok-flags.ensures) e) c.format.ensures.ok

@@ -4,4 +4,4 @@ use Rattle.message_text.proofs.texts.describe_tree_status.Goals as goal
 
 pub returns : goal.returns
 unfolding tree_status_text
-returns c = IfOk-weaker c.format.result _ _ (λ t e. rw (← c.in-ok-flags.ensures) e) c.format.ensures.ok
+returns c = IfOk-weaker c.format.result _ _ (λ t e. rw (← c.in_ok-flags.ensures) e) c.format.ensures.ok
