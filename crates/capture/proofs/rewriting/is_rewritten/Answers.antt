@@ -16,10 +16,10 @@ rewritten : (xs before now : List ℕ) (m : Message) (r : Result ℕ WriteFault)
 rewritten xs before now m r long writes reads =
     read_is_written xs m reads before now r writes (omega (arith, messages_are_short (values m) reads.0, ap length reads.1))
 
-pub returns-in-default : goal.returns-in-default
-returns-in-default c = λ reads.
+pub returns-in_default : goal.returns-in_default
+returns-in_default c = λ reads.
     let e = rewritten c.args.octets.now _ _ c.args.message c.write.result refl c.write.ensures reads in
-    absurd (c.in-default.not-Ok (length c.args.octets.now) e.0)
+    absurd (c.in_default.not-Ok (length c.args.octets.now) e.0)
 
 pub returns-then-len-le43 : goal.returns-then-len-le43
 returns-then-len-le43 c = λ reads.
