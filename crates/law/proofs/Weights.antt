@@ -9,7 +9,7 @@ use Rattle.record.specs.Symmetry.{symmetric}
 use Rattle.record.specs.declared.rows.NeighbourRow.{NeighbourRow}
 use Rattle.law.specs.Energy.{weight, weight_around}
 
-pub weight_few : (class : EnergyClass) → weight class ≤ 20
+weight_few : (class : EnergyClass) → weight class ≤ 20
 weight_few High = omega arith
 weight_few Medium = omega arith
 weight_few Low = omega arith

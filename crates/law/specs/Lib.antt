@@ -2,4 +2,3 @@ pub mod Costs
 pub mod Energy
 pub mod Examples
 pub mod Hops
-pub mod Rules

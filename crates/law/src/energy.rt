@@ -4,7 +4,7 @@ ghost use Rattle.record.specs.Tuning.{law_number};
 ghost use Rattle.record.specs.declared.tuning.LawNumber.TheVariants.{Energy};
 ghost use Rattle.table.specs.Rows.{rows};
 ghost use Rattle.std.proofs.Common.{arith, rules};
-ghost use Rattle.law.specs.Rules.{as_cost_order};
+ghost use Rattle.std.proofs.lemmas.Bool.Decides.{nat_tests};
 
 use crate::cost_law::CostLaw;
 use crate::costs::as_cost;
@@ -32,7 +32,7 @@ impl CostLaw for EnergyLaw {
 
     ghost rise = { Prim.search rules };
 
-    ghost order = { λ a b o m some le e. as_cost_order (a + m) (b + m) o (omega arith) e };
+    ghost order = { λ a b o m some le e. (a + m, Prim.grind (arith, nat_tests), Prim.grind (arith, nat_tests)) };
 
     fn law_number(&self) -> u8 {
         Self::NUMBER

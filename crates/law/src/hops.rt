@@ -1,12 +1,10 @@
-ghost use Rattle.std.specs.Prelude.{◌≡◌, ◌+◌, ◌-◌, ◌*◌};
-ghost use Rattle.law.specs.Hops.{power_of, hop_extended};
+ghost use Rattle.std.specs.Prelude.{◌≡◌, ◌+◌, ◌-◌, ◌*◌, max};
+ghost use Rattle.law.specs.Hops.{power_of, hop_extended, hops, weakness};
 ghost use Rattle.record.specs.Tuning.{law_number};
 ghost use Rattle.record.specs.declared.tuning.LawNumber.TheVariants.{Hops};
 ghost use Rattle.table.specs.Rows.{rows};
-ghost use Prim.Native.Nat;
 ghost use Rattle.std.proofs.Common.{arith, rules};
 ghost use Rattle.std.proofs.lemmas.Bool.Decides.{nat_tests};
-ghost use Rattle.law.specs.Hops as SpecsHops;
 
 use crate::cost_law::CostLaw;
 use field::{Address, Cost, EnergyClass};
@@ -36,7 +34,7 @@ impl CostLaw for HopLaw {
 
     ghost rise = { Prim.search rules };
 
-    ghost order = { λ a b o power any le e. ((SpecsHops.hops a + 1) * 256 + Nat.max (SpecsHops.weakness a) (255 - power), Prim.grind (arith, nat_tests), Prim.grind (arith, nat_tests)) };
+    ghost order = { λ a b o power any le e. ((hops a + 1) * 256 + max (weakness a) (255 - power), Prim.grind (arith, nat_tests), Prim.grind (arith, nat_tests)) };
 
     fn law_number(&self) -> u8 {
         Self::NUMBER

@@ -1,5 +1,5 @@
 -- Settling keeps a record lawful, and a second settling at the same time changes nothing.
-use Rattle.std.proofs.Common.{◌≡◌, ℕ, Bool, true, false, cond, not, ◌&&◌, ◌||◌, ltb, leb, List, [], ◌∷◌, map, filter, sym, refl, ap, ◌∙◌, ap₂}
+use Rattle.std.proofs.Common.{◌≡◌, ℕ, Bool, true, false, cond, not, ◌&&◌, ◌||◌, ltb, leb, List, [], ◌∷◌, map, filter, refl, ap, ◌∙◌, ap₂}
 use Rattle.std.proofs.lemmas.Bool.{and_parts, and_from}
 use Rattle.field.specs.Bits.{suits}
 use Rattle.table.proofs.Apart.{apart_kept, apart_map}
@@ -7,7 +7,7 @@ use Rattle.table.proofs.Every.{every_kept, every_map}
 use Rattle.table.specs.Filters.{every}
 use Rattle.table.specs.Keys.{apart}
 use Rattle.record.specs.Lawful.{lawful_neighbour, lawful_neighbours, lawful_tree, lawful_trees, named, tree_key, last_until}
-use Rattle.record.specs.Settling.{heard, lapses, lapsed, orphan, settled, SettlingAgain}
+use Rattle.record.specs.Settling.{heard, lapses, lapsed, orphan, SettlingAgain}
 use Rattle.record.specs.States.{State}
 use Rattle.record.specs.Symmetry.{neighbour_key}
 use Rattle.record.specs.declared.rows.NeighbourRow.{NeighbourRow}

@@ -16,6 +16,7 @@ pub trait RowText {
 impl RowText for NeighbourRow {
     ghost text = { neighbour_text };
 
+    #[tactic(auto, unfolding(crate::specs::Texts::neighbour_text))]
     fn describe(&self, heap: Global) -> Result<String, AllocError> {
         let address = self.address.0;
         let sym = self.sym_until;
@@ -29,6 +30,7 @@ impl RowText for NeighbourRow {
 impl RowText for TreeRow {
     ghost text = { tree_text };
 
+    #[tactic(auto, unfolding(crate::specs::Texts::tree_text))]
     fn describe(&self, heap: Global) -> Result<String, AllocError> {
         let offer = describe_offer(heap, self)?;
         let valid = self.valid_until;
@@ -40,6 +42,7 @@ impl RowText for TreeRow {
     }
 }
 
+#[tactic(auto, unfolding(crate::specs::Texts::offer_text))]
 fn describe_offer(heap: Global, row: &TreeRow) -> Result<String, AllocError>
     ensures { IfOk result (λ t. string_bytes t ≡ offer_text row.now) }
 {

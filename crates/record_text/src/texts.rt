@@ -7,6 +7,7 @@ use field_text::{class_name, or_none};
 use record::Record;
 use std::alloc::{AllocError, Global};
 
+#[tactic(auto, unfolding(crate::specs::Texts::record_text))]
 pub fn describe(heap: Global, held: &Record) -> Result<String, AllocError>
     ensures { IfOk result (λ t. string_bytes t ≡ record_text (state held.now)) }
 {
