@@ -1,5 +1,5 @@
 -- A card has one record, and is short.
-use Rattle.std.proofs.Common.{◌≡◌, ℕ, ◌+◌, ◌*◌, ◌≤◌, Bool, true, ◌&&◌, ltb, leb, List, [], ◌∷◌, ◌++◌, length, take, drop, Ok, Err, sym, refl, ap, ◌∙◌, arith, length-append}
+use Rattle.std.proofs.Common.{◌≡◌, ◌+◌, ◌*◌, Bool, true, ◌&&◌, ltb, leb, List, [], ◌∷◌, ◌++◌, length, take, drop, Ok, Err, sym, refl, ap, ◌∙◌, arith, length-append}
 use Rattle.std.proofs.lemmas.List.{take_at, drop_at}
 use Rattle.std.proofs.lemmas.Bool.{and_parts, and_from}
 use Rattle.field.proofs.Fields.{one_class}
@@ -7,7 +7,7 @@ use Rattle.field.specs.Wide.{at, wide_at, long_at}
 use Rattle.table.proofs.Laws.{rows_few}
 use Rattle.table.specs.Filters.{every}
 use Rattle.table.specs.Keys.{apart}
-use Rattle.record.specs.Lawful.{lawful_tree, lawful_trees, named, tree_key, last_until}
+use Rattle.record.specs.Lawful.{lawful_tree, named, tree_key, last_until}
 use Rattle.record.specs.Records.{state}
 use Rattle.record.specs.States.{State}
 use Rattle.record.specs.declared.faults.RecordFault.TheVariants.{Unlawful}

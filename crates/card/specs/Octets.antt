@@ -1,5 +1,5 @@
 -- The octets of a record.
-use Rattle.std.specs.Prelude.{ℕ, Bool, true, false, cond, List, [], ◌∷◌, ◌++◌, length}
+use Rattle.std.specs.Prelude.{ℕ, Bool, cond, List, [], ◌∷◌, ◌++◌, length}
 use Rattle.field.specs.Addresses.{number_or_0}
 use Rattle.field.specs.Codes.{class_code}
 use Rattle.field.specs.Wide.{wide, long}

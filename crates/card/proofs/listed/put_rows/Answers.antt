@@ -1,4 +1,4 @@
-use Rattle.std.proofs.Common.{◌≡◌, ◌+◌, ◌≤◌, [], ◌++◌, length, take, sym, ap, ◌∙◌, ap₂, arith, length-append}
+use Rattle.std.proofs.Common.{◌+◌, ◌≤◌, length, take, sym, ap, ◌∙◌, ap₂, arith, length-append}
 use Rattle.std.proofs.lemmas.List.{take_all}
 use Rattle.card.specs.Octets.{joined}
 use Rattle.card.specs.Placing.{placed}

@@ -22,13 +22,13 @@ returns-then-left-width g c xs few e =
     let next = joined_next g.R.CardRow.written g.R.CardRow.wide g.met.R.CardRow.sized xs _ left (c.loop-left.invariant.2 xs e).1 c.loop-left-test.true in
     omega (arith, ap length next.2, g.met.R.CardRow.sized next.0, length-take g.R.CardRow.wide left, c.width-width.ensures)
 
-pub returns-in-err-row : goal.returns-in-err-row
-returns-in-err-row g c =
+pub returns-in_err-row : goal.returns-in_err-row
+returns-in_err-row g c =
     let left = c.loop-left.left.now in
-    rw c.from-residual.ensures
+    rw c.from_residual.ensures
     (λ xs few e.
     let next = joined_next g.R.CardRow.written g.R.CardRow.wide g.met.R.CardRow.sized xs _ left (c.loop-left.invariant.2 xs e).1 c.loop-left-test.true in
-    c.in-err-row.ensures next.0 (next.2 ∙ start left c.width-width.result g.R.CardRow.wide c.width-width.ensures))
+    c.in_err-row.ensures next.0 (next.2 ∙ start left c.width-width.result g.R.CardRow.wide c.width-width.ensures))
 
 pub returns-then-not-push : goal.returns-then-not-push
 returns-then-not-push g c xs few e =
@@ -43,8 +43,8 @@ loop-left-preserved g c =
     let width = c.width-width.result in
     let left = c.loop-left.left.now in
     let had = rows c.loop-left.all in
-    let x = c.in-ok-row.row in
-    let got = c.in-ok-row.ensures in
+    let x = c.in_ok-row.row in
+    let got = c.in_ok-row.ensures in
     let now : rows c.push.new.self ≡ had ++ x ∷ [] = c.push.ensures.after ∙ ap (λ b. cond b (had ++ x ∷ []) had) c.if-not-push.false in
     let rest : take (length left - width) (drop width left) ≡ drop width left = take_rest left width in
     let first : w x ≡ take width left = got.0 ∙ sym (start left width width refl) in
