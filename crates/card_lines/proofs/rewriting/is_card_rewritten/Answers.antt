@@ -15,10 +15,10 @@ use Rattle.std.proofs.lemmas.Bool.Decides.{Decides-eqb}
 rewritten : (xs before now : List ℕ) (r : Record) (a : Result ℕ WriteFault) → length before ≡ 270 → Writes (card (state r)) before now a → ReadsCard xs (Ok r) → (a ≡ Ok (length xs)) × (now ≡ xs ++ drop (length xs) before)
 rewritten xs before now r a long writes reads = read_is_written xs r reads before now a writes (omega (arith, cards_are_short r, ap length reads))
 
-pub returns-in-default : goal.returns-in-default
-returns-in-default c = λ reads.
+pub returns-in_default : goal.returns-in_default
+returns-in_default c = λ reads.
     let e = rewritten c.args.octets.now (replicate 270 0) c.write.new.out c.args.held.now c.write.result refl c.write.ensures reads in
-    absurd (c.in-default.not-Ok (length c.args.octets.now) e.0)
+    absurd (c.in_default.not-Ok (length c.args.octets.now) e.0)
 
 pub returns-then-len-le270 : goal.returns-then-len-le270
 returns-then-len-le270 c = λ reads.
