@@ -6,6 +6,7 @@ pub fn records_are_lawful()
     ensures { RecordsAreLawful }
 {}
 
+#[tactic(auto, using(crate::proofs::Settled::settling_again))]
 pub fn settling_again_changes_nothing()
     ensures { SettlingAgain }
 {}

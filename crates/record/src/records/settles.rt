@@ -7,6 +7,7 @@ use crate::settling::{HeardAt, is_timely, lapse};
 
 impl Record {
     // Brings the record to the time, which becomes the latest; a refusal changes nothing.
+    #[tactic(auto, using(crate::proofs::Settled::neighbours_kept, crate::proofs::Settled::trees_lapsed))]
     pub fn settle(&mut self, time: u32) -> Result<(), TimeFault>
         ensures { Settles time (state self.old) (state self.new) result }
     {
