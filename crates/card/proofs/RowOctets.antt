@@ -3,7 +3,6 @@ use Rattle.std.proofs.Common.{◌≡◌, ℕ, Bool, true, false, List, [], ◌�
 use Rattle.std.proofs.lemmas.List.{drop_all}
 use Rattle.std.proofs.lemmas.Bool.{ltb-true}
 use Rattle.field.specs.Addresses.{number_or_0}
-use Rattle.field.specs.Codes.{class_code}
 use Rattle.field.specs.Wide.{at, wide, wide_at, long, long_at}
 use Rattle.field.specs.declared.numbers.Address.{Address}
 use Rattle.field.proofs.Fields.{one_class}
@@ -16,14 +15,6 @@ use Rattle.card.specs.Octets.{bit, neighbour_octets, tree_octets}
 -- ---- a row whose fields stand at their places is written as those octets
 
 module _ (xs : List ℕ) (octets : Octets xs) where
-  pub neighbour_is : length xs ≡ 12 → (row : NeighbourRow) → row.address.0 ≡ wide_at xs 0 → row.sym_until ≡ long_at xs 2 → row.heard_until ≡ long_at xs 6 → class_code row.class ≡ at xs 10 → row.power ≡ at xs 11 → neighbour_octets row ≡ xs
-  neighbour_is n row a s h c p =
-      let end : [] ≡ drop 12 xs = sym (drop_all 12 xs (omega arith)) in
-      let fields : neighbour_octets row ≡ wide (wide_at xs 0) (long (long_at xs 2) (long (long_at xs 6) (at xs 10 ∷ at xs 11 ∷ []))) = cc in
-      fields
-      ∙ wide_places xs octets 0 _ (long_places xs octets 2 _ (long_places xs octets 6 _ (ap (λ l. at xs 10 ∷ at xs 11 ∷ l) end)))
-      ∙ sym (by_places 12 0 xs (omega arith))
-
   pub tree_is : length xs ≡ 17 → (row : TreeRow) → row.root.0 ≡ wide_at xs 0 → row.wave.0 ≡ wide_at xs 2 → row.cost ≡ wide_at xs 4 → number_or_0 row.parent ≡ wide_at xs 6 → row.valid_until ≡ long_at xs 8 → row.ttl ≡ at xs 12 → row.flags.0 ≡ at xs 13 → row.tree.0 ≡ wide_at xs 14 → bit row.owed ≡ at xs 16 → tree_octets row ≡ xs
   tree_is n row r w c p v l f t o =
       let end : [] ≡ drop 17 xs = sym (drop_all 17 xs (omega arith)) in

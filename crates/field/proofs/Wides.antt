@@ -2,11 +2,6 @@
 use Rattle.std.proofs.Common.{◌≡◌, ℕ, zero, suc, ◌+◌, ◌*◌, ◌/◌, ◌%◌, ◌<◌, ◌≤◌, List, [], ◌∷◌, length, take, drop, refl, ap, ◌∙◌, ap₂, arith, drop-cons}
 use Rattle.field.specs.Wide.{numbers, at, wide, wides, wide_at, long, long_at}
 
-pub numbers_more : (xs : List ℕ) → 2 ≤ length xs → numbers xs ≡ wide_at xs 0 ∷ numbers (drop 2 xs)
-numbers_more [] h = absurd (omega arith)
-numbers_more (a ∷ []) h = absurd (omega arith)
-numbers_more (a ∷ b ∷ rest) h = refl
-
 -- what is written is read
 pub numbers_wides : (ns : List ℕ) → numbers (wides ns) ≡ ns
 numbers_wides [] = refl
@@ -59,19 +54,11 @@ length_numbers (suc n) [] h = omega arith
 length_numbers (suc n) (a ∷ []) h = absurd (omega arith)
 length_numbers (suc n) (a ∷ b ∷ rest) h = omega (arith, length_numbers n rest (omega arith))
 
--- a field of two octets, as it is written and as it is read
-pub wide_from : (n : ℕ) (bytes rest : List ℕ) {more : List ℕ} → bytes ≡ wide n [] → rest ≡ more → at bytes 0 ∷ at bytes 1 ∷ rest ≡ wide n more
-wide_from n bytes rest {more} e same = ap (λ b. at b 0 ∷ at b 1 ∷ rest) e ∙ ap (λ l. wide n l) same
-
 pub wide_to : (n high low : ℕ) (more : List ℕ) {rest : List ℕ} → n ≡ high * 256 + low → low < 256 → more ≡ rest → wide n more ≡ high ∷ low ∷ rest
 wide_to n high low more e small same =
     let a : n / 256 ≡ high = omega arith in
     let b : n % 256 ≡ low = omega arith in
     cc
-
--- a number of four octets is two of two
-pub long_from : (n : ℕ) (bytes rest : List ℕ) {more : List ℕ} → bytes ≡ long n [] → rest ≡ more → at bytes 0 ∷ at bytes 1 ∷ at bytes 2 ∷ at bytes 3 ∷ rest ≡ long n more
-long_from n bytes rest {more} e same = ap (λ b. at b 0 ∷ at b 1 ∷ at b 2 ∷ at b 3 ∷ rest) e ∙ ap (λ l. long n l) same
 
 -- n octets from place i on, and what follows them
 abbrev pub places : ℕ → ℕ → List ℕ → List ℕ

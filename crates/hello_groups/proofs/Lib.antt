@@ -1,3 +1,2 @@
 pub mod Distinct
 pub mod Grouping
-pub mod Steps

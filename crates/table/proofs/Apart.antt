@@ -1,17 +1,9 @@
 -- What keeps the keys of rows apart.
-use Rattle.std.proofs.Common.{◌≡◌, ℕ, ◌≤◌, Bool, true, false, cond, not, ◌&&◌, eqb, List, [], ◌∷◌, map, length, get_or, drop, is_some, Some, filter, sym, refl, ap, ◌∙◌, ap₂, arith}
+use Rattle.std.proofs.Common.{◌≡◌, ℕ, Bool, true, false, cond, not, ◌&&◌, eqb, List, [], ◌∷◌, map, is_some, Some, filter, refl, ap, ◌∙◌, ap₂}
 use Rattle.std.proofs.lemmas.Bool.{and_parts, and_from, not-true, not_from_false, true≢false}
 use Rattle.table.specs.Keys.{found, apart}
 
 module _ {X : Type 0} (key : X → ℕ) where
-  pub apart_first : (xs : List X) (x : X) → 1 ≤ length xs → x ≡ get_or xs 0 x → apart key xs ≡ (not (is_some (found key (drop 1 xs) (key x))) && apart key (drop 1 xs))
-  apart_first [] x h e = absurd (omega arith)
-  apart_first (y ∷ rest) x h e = ap (λ z. not (is_some (found key rest (key z))) && apart key rest) (sym e)
-
-  pub apart_none : (xs : List X) → length xs ≤ 0 → apart key xs ≡ true
-  apart_none [] h = refl
-  apart_none (x ∷ xs) h = absurd (omega arith)
-
   -- a key that no row has, no row that is kept has
   unknown_kept : (p : X → Bool) (rows : List X) (k : ℕ) → is_some (found key rows k) ≡ false → is_some (found key (filter p rows) k) ≡ false
   unknown_kept p [] k h = refl

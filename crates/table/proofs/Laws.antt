@@ -1,24 +1,11 @@
 -- The rows of a table, over the list of its places.
-use Rattle.std.proofs.Common.{◌≡◌, ℕ, zero, suc, ◌+◌, ◌-◌, ◌<◌, ◌≤◌, ◌⊎◌, List, [], ◌∷◌, ◌++◌, length, get_or, take, drop, set, sym, refl, ap, ◌∙◌, inl, append-nil, arith}
-use mathlib.Core.Path.{fun_ext}
-use mathlib.Core.HLevel.{is_prop→PathP}
-use native.Mathlib.Bridge.{le_prop}
-use native.Mathlib.Nat.{ℕ_set}
+use Rattle.std.proofs.Common.{◌≡◌, ℕ, zero, suc, ◌+◌, ◌-◌, ◌<◌, ◌≤◌, List, [], ◌∷◌, ◌++◌, length, get_or, take, drop, set, sym, refl, ap, ◌∙◌, append-nil, arith}
 use lib.Seq.{paste}
 use Rattle.std.specs.List.{remove}
 use Rattle.std.proofs.lemmas.List.{length-take-le, get_or-take, get_or-drop, take-take, drop-take, length-drop, get_or_default, take_all, drop_all}
 use Rattle.std.proofs.lemmas.List.Edits.{paste_more, take-paste, drop-paste}
 use Rattle.table.specs.Rows.{rows, altered}
 use Rattle.table.specs.declared.tables.Table.{Table}
-
-module _ {T : Type 0} {N : ℕ} where
-  pub same_table : (t u : Table T N) → t.items ≡ u.items → t.count ≡ u.count → t ≡ u
-  same_table t u e n j = record {
-    items = e j;
-    count = n j;
-    within = is_prop→PathP (λ k. n k ≤ N) (λ k. le_prop) t.within u.within j;
-    whole = is_prop→PathP (λ k. length (e k) ≡ N) (λ k. ℕ_set _ _) t.whole u.whole j;
-  }
 
 module _ {T : Type 0} where
   pub rows_at : (xs : List T) (n i : ℕ) (d e : T) → n ≤ length xs → i < length (take n xs) → get_or xs i d ≡ get_or (take n xs) i e
@@ -72,7 +59,3 @@ module _ {T : Type 0} {N : ℕ} where
 
   pub rows_few : (t : Table T N) → length (rows t) ≤ N
   rows_few t = omega (arith, t.within, rows_within t)
-
-  -- a table that lent the row at i: whatever is written there, the rest stays
-  pub lends : {A : Type 0} (n : A) (f : T → Table T N) (t : Table T N) (i : ℕ) → ((w : T) → (f w).items ≡ set t.items i w) → ((w : T) → (f w).count ≡ t.count) → ◌≡◌ {A = (A × (T → Table T N)) ⊎ Table T N} (inl (n, f)) (inl (n, altered t i))
-  lends n f t i e k = ap (λ g. inl (n, g)) (fun_ext (λ w. same_table (f w) (altered t i w) (e w) (k w)))
