@@ -1,11 +1,11 @@
 // A cost law of a stranger's own, under the interface of `law`: a way costs the sendings that its links make needful. No heap.
 #![tactic(auto)]
 
-ghost use Rattle.std.specs.Prelude.{◌+◌, ◌-◌, ◌*◌, ◌≤◌};
+ghost use Rattle.std.specs.Prelude.{◌≤◌};
 ghost use Rattle.attenuation_law.specs.Sendings.{attenuation, attenuated, sendings};
+ghost use Rattle.attenuation_law.specs.Rising.{sendings_rise, sendings_order};
 ghost use Rattle.law.proofs.Rules.{as_cost_rise, as_cost_order};
-ghost use Rattle.std.proofs.Common.{arith, rules, mul-le-mul_left};
-ghost use Rattle.std.proofs.lemmas.Nat.{div-add-mod', le-div};
+ghost use Rattle.std.proofs.Common.{rules};
 
 use field::{Address, Cost, EnergyClass};
 use law::{CostLaw, as_cost, power_of};
@@ -34,9 +34,9 @@ impl CostLaw for AttenuationLaw {
 
     ghost measures = { Prim.search rules };
 
-    ghost rise = { λ c o m few e. as_cost_rise c (sendings c m.0) o (Prim.omega (arith, le-div (c + 1) ((c + 1) * 256) (256 - m.0) (Prim.omega arith) (mul-le-mul_left (c + 1) (Prim.omega arith)))) e };
+    ghost rise = { λ c o m few e. as_cost_rise c (sendings c m.0) o (sendings_rise c m.0 few) e };
 
-    ghost order = { λ a b o m few le e. as_cost_order (sendings a m.0) (sendings b m.0) o (le-div (sendings a m.0) ((b + 1) * 256) (256 - m.0) (Prim.omega arith) (Prim.omega (arith, div-add-mod' ((a + 1) * 256) (256 - m.0)))) e };
+    ghost order = { λ a b o m few le e. as_cost_order (sendings a m.0) (sendings b m.0) o (sendings_order a b m.0 few le) e };
 
     fn law_number(&self) -> u8 {
         Self::NUMBER
