@@ -38,6 +38,6 @@ pub fn inspect_line(heap: Global, line: &[u8]) -> Result<Inspected, AllocError>
             let rewritten = compare(message, octets);
             Ok(Inspected::Message(format!(in heap; "{text} rewritten={rewritten}")?))
         }
-        Err(fault) => Ok(Inspected::Refused(fault.number())),
+        Err(fault) => Ok(Inspected::Refused(fault.into())),
     }
 }

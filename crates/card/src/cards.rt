@@ -30,7 +30,7 @@ pub fn read(octets: &[u8]) -> Result<Record, RecordFault>
     else {
         return Err(RecordFault::Unlawful);
     };
-    let Some(class) = EnergyClass::from_code(*class) else {
+    let Ok(class) = EnergyClass::try_from(*class) else {
         return Err(RecordFault::Unlawful);
     };
     let behind = *neighbours as usize * 12;
@@ -63,7 +63,7 @@ fn head_of(held: &Record) -> [u8; 10]
     [
         a1,
         a0,
-        held.class.code(),
+        held.class.into(),
         held.number,
         l3,
         l2,

@@ -24,7 +24,7 @@ fn octets_of(row: &NeighbourRow) -> [u8; 12]
         h2,
         h1,
         h0,
-        row.class.code(),
+        row.class.into(),
         row.power,
     ]
 }
@@ -48,7 +48,7 @@ impl CardRow for NeighbourRow {
         let [a1, a0, s3, s2, s1, s0, h3, h2, h1, h0, class, power] = octets else {
             return None;
         };
-        let class = EnergyClass::from_code(*class)?;
+        let class = EnergyClass::try_from(*class).ok()?;
         Some(NeighbourRow {
             address: Address(u16::from_be_bytes([*a1, *a0])),
             sym_until: u32::from_be_bytes([*s3, *s2, *s1, *s0]),

@@ -92,7 +92,7 @@ impl CardRow for TreeRow {
             root: Address(u16::from_be_bytes([*r1, *r0])),
             wave: WaveNumber(u16::from_be_bytes([*w1, *w0])),
             cost: u16::from_be_bytes([*c1, *c0]),
-            parent: Address::from_number(u16::from_be_bytes([*p1, *p0])),
+            parent: Address::try_from(u16::from_be_bytes([*p1, *p0])).ok(),
             valid_until: u32::from_be_bytes([*v3, *v2, *v1, *v0]),
             ttl: *ttl,
             flags: Flags(*flags),

@@ -1,33 +1,37 @@
-ghost use Rattle.std.specs.Prelude.{◌≡◌, MatchOption};
+ghost use Rattle.std.specs.Prelude.{◌≡◌, MatchResult};
 ghost use Rattle.field.specs.Codes.{class_code, IsClass};
 
-// How much energy a node has.
+// How much energy a node has, by the code that stands for it.
 #[derive(Clone, Copy, PartialEq, Eq, Debug)]
 pub enum EnergyClass {
-    High,
-    Medium,
-    Low,
+    High = 1,
+    Medium = 2,
+    Low = 3,
 }
 
-impl EnergyClass {
-    pub fn from_code(code: u8) -> Option<EnergyClass>
-        ensures { MatchOption result (IsClass code → ⊥) (λ c. class_code c ≡ code) }
-    {
-        match code {
-            1 => Some(EnergyClass::High),
-            2 => Some(EnergyClass::Medium),
-            3 => Some(EnergyClass::Low),
-            _ => None,
-        }
-    }
+// A code that stands for no class.
+#[derive(Clone, Copy, PartialEq, Eq, Debug)]
+pub struct UnknownClass(pub u8);
 
-    pub fn code(self) -> u8
-        ensures { result ≡ class_code self }
-    {
-        match self {
-            EnergyClass::High => 1,
-            EnergyClass::Medium => 2,
-            EnergyClass::Low => 3,
+impl From<EnergyClass> for u8 {
+    ghost from_gives = { λ class code. code ≡ class_code class };
+
+    fn from(class: EnergyClass) -> u8 {
+        class as u8
+    }
+}
+
+impl TryFrom<u8> for EnergyClass {
+    type Error = UnknownClass;
+
+    ghost try_from_gives = { λ code r. MatchResult r (λ class. class_code class ≡ code) (λ e. (e.0 ≡ code) × (IsClass code → ⊥)) };
+
+    fn try_from(code: u8) -> Result<EnergyClass, UnknownClass> {
+        match code {
+            1 => Ok(EnergyClass::High),
+            2 => Ok(EnergyClass::Medium),
+            3 => Ok(EnergyClass::Low),
+            _ => Err(UnknownClass(code)),
         }
     }
 }

@@ -7,8 +7,10 @@ mod links;
 mod numbers;
 mod tree_flags;
 
-pub use classes::EnergyClass;
-pub use kinds::Kind;
+pub use classes::{EnergyClass, UnknownClass};
+pub use kinds::{Kind, UnknownKind};
 pub use links::LinkCode;
-pub use numbers::{Address, Cost, TreeSequenceNumber, WaveNumber, four_octets, two_octets};
+pub use numbers::{
+    Address, Cost, NoAddress, TreeSequenceNumber, WaveNumber, four_octets, two_octets,
+};
 pub use tree_flags::{Flag, Flags};

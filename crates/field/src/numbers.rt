@@ -1,10 +1,15 @@
 ghost use Rattle.std.specs.Prelude.{◌≡◌, []};
+ghost use Rattle.std.specs.Result.{result_ok};
 ghost use Rattle.field.specs.Addresses.{address_of, number_or_0};
 ghost use Rattle.field.specs.Wide.{wide, long};
 
 // A node's address. 0 is no node's.
 #[derive(Clone, Copy, PartialEq, Eq, Debug)]
 pub struct Address(pub u16);
+
+// The number 0, in a field that holds it for none.
+#[derive(Clone, Copy, PartialEq, Eq, Debug)]
+pub struct NoAddress;
 
 // The cost of a way to a root.
 pub type Cost = u16;
@@ -17,26 +22,26 @@ pub struct WaveNumber(pub u16);
 #[derive(Clone, Copy, PartialEq, Eq, Debug)]
 pub struct TreeSequenceNumber(pub u16);
 
-impl Address {
-    // The address in a field that holds 0 for none.
-    pub fn from_number(number: u16) -> Option<Address>
-        ensures { result ≡ address_of number }
-    {
+impl TryFrom<u16> for Address {
+    type Error = NoAddress;
+
+    ghost try_from_gives = { λ number r. result_ok r ≡ address_of number };
+
+    fn try_from(number: u16) -> Result<Address, NoAddress> {
         if number == 0 {
-            None
+            Err(NoAddress)
         } else {
-            Some(Address(number))
+            Ok(Address(number))
         }
     }
+}
 
-    // The number for a field that holds 0 for none.
+impl Address {
+    // The number for a field that holds 0 for none. No `From`: both ends are types of other crates.
     pub fn number_or_0(address: Option<Address>) -> u16
         ensures { result ≡ number_or_0 address }
     {
-        match address {
-            Some(Address(number)) => number,
-            None => 0,
-        }
+        address.map_or(0, |Address(number)| number)
     }
 }
 

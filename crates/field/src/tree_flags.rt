@@ -1,5 +1,5 @@
 ghost use Rattle.std.specs.Prelude.{◌≡◌, MatchBool};
-ghost use Rattle.field.specs.Bits.{UnusedClear, weight, stands, suits};
+ghost use Rattle.field.specs.Bits.{UnusedClear, stands, suits};
 
 use super::numbers::TreeSequenceNumber;
 
@@ -7,36 +7,22 @@ use super::numbers::TreeSequenceNumber;
 #[derive(Clone, Copy, PartialEq, Eq, Debug)]
 pub struct Flags(pub u8);
 
+// By the weight of its bit.
 #[derive(Clone, Copy, PartialEq, Eq, Debug)]
 pub enum Flag {
-    Inconsistent,
-    Stable,
-    Unstable,
-    TreeChange,
-    NewNeighbour,
-    Coloured,
-}
-
-impl Flag {
-    fn weight(self) -> u8
-        ensures { result ≡ weight self }
-    {
-        match self {
-            Flag::Inconsistent => 1,
-            Flag::Stable => 2,
-            Flag::Unstable => 4,
-            Flag::TreeChange => 8,
-            Flag::NewNeighbour => 16,
-            Flag::Coloured => 128,
-        }
-    }
+    Inconsistent = 1,
+    Stable = 2,
+    Unstable = 4,
+    TreeChange = 8,
+    NewNeighbour = 16,
+    Coloured = 128,
 }
 
 impl Flags {
     pub fn has(self, flag: Flag) -> bool
         ensures { result ≡ stands flag self.0 }
     {
-        self.0 / flag.weight() % 2 == 1
+        self.0 / flag as u8 % 2 == 1
     }
 
     // Whether bits 5 and 6, which are no flag's, are 0.

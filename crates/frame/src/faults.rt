@@ -1,45 +1,56 @@
 ghost use Rattle.std.specs.Prelude.{◌≡◌};
 ghost use Rattle.frame.specs.Faults.{read_fault_number, write_fault_number};
+ghost use Rattle.frame.specs.declared.faults.ReadFault.TheVariants.{UnknownKind, BadField};
+
+use field::{UnknownClass, UnknownKind};
 
 // Why octets are no message: the first rule that they break.
 #[derive(Clone, Copy, PartialEq, Eq, Debug)]
 pub enum ReadFault {
     // fewer than two octets
-    Short,
+    Short = 1,
     // a type that is none of the three
-    UnknownKind,
+    UnknownKind = 2,
     // a size that is not the number of octets, or not the kind's
-    WrongSize,
-    BadField,
-    BadGroup,
+    WrongSize = 3,
+    BadField = 4,
+    BadGroup = 5,
 }
 
 // Why octets are not written.
 #[derive(Clone, Copy, PartialEq, Eq, Debug)]
 pub enum WriteFault {
-    OutputTooShort,
+    OutputTooShort = 14,
 }
 
-impl ReadFault {
-    pub fn number(self) -> u8
-        ensures { result ≡ read_fault_number self }
-    {
-        match self {
-            ReadFault::Short => 1,
-            ReadFault::UnknownKind => 2,
-            ReadFault::WrongSize => 3,
-            ReadFault::BadField => 4,
-            ReadFault::BadGroup => 5,
-        }
+impl From<UnknownKind> for ReadFault {
+    ghost from_gives = { λ _ fault. fault ≡ UnknownKind };
+
+    fn from(_: UnknownKind) -> ReadFault {
+        ReadFault::UnknownKind
     }
 }
 
-impl WriteFault {
-    pub fn number(self) -> u8
-        ensures { result ≡ write_fault_number self }
-    {
-        match self {
-            WriteFault::OutputTooShort => 14,
-        }
+impl From<UnknownClass> for ReadFault {
+    ghost from_gives = { λ _ fault. fault ≡ BadField };
+
+    fn from(_: UnknownClass) -> ReadFault {
+        ReadFault::BadField
+    }
+}
+
+impl From<ReadFault> for u8 {
+    ghost from_gives = { λ fault number. number ≡ read_fault_number fault };
+
+    fn from(fault: ReadFault) -> u8 {
+        fault as u8
+    }
+}
+
+impl From<WriteFault> for u8 {
+    ghost from_gives = { λ fault number. number ≡ write_fault_number fault };
+
+    fn from(fault: WriteFault) -> u8 {
+        fault as u8
     }
 }

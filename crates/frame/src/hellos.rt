@@ -52,14 +52,11 @@ impl<'a> Hello<'a> {
         let [_, _, s1, s0, number, vtime, class, ..] = octets else {
             return Err(ReadFault::WrongSize);
         };
-        let Some(class) = EnergyClass::from_code(*class) else {
-            return Err(ReadFault::BadField);
-        };
         Hello::new(HelloFields {
             sender: Address(u16::from_be_bytes([*s1, *s0])),
             number: *number,
             vtime: *vtime,
-            class,
+            class: EnergyClass::try_from(*class)?,
             groups: Groups(&octets[7..]),
         })
     }
@@ -79,13 +76,13 @@ impl<'a> Hello<'a> {
         }
         let [s1, s0] = two_octets(fields.sender.0);
         let head = [
-            Kind::Hello.code(),
+            Kind::Hello.into(),
             size,
             s1,
             s0,
             fields.number,
             fields.vtime,
-            fields.class.code(),
+            fields.class.into(),
         ];
         out[0..7].copy_from_slice(&head);
         out[7..len].copy_from_slice(groups);

@@ -24,9 +24,7 @@ pub fn read(octets: &[u8]) -> Result<Message<'_>, ReadFault>
     let [code, size, rest @ ..] = octets else {
         return Err(ReadFault::Short);
     };
-    let Some(kind) = Kind::from_code(*code) else {
-        return Err(ReadFault::UnknownKind);
-    };
+    let kind = Kind::try_from(*code)?;
     if *size as usize != octets.len() {
         return Err(ReadFault::WrongSize);
     }

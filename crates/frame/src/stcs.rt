@@ -89,7 +89,7 @@ impl Stc {
             wave: WaveNumber(u16::from_be_bytes([*w1, *w0])),
             root: Address(u16::from_be_bytes([*r1, *r0])),
             cost: u16::from_be_bytes([*c1, *c0]),
-            parent: Address::from_number(u16::from_be_bytes([*p1, *p0])),
+            parent: Address::try_from(u16::from_be_bytes([*p1, *p0])).ok(),
             vtime: *vtime,
             ttl: *ttl,
             flags: Flags(*flags),
@@ -108,7 +108,7 @@ impl Stc {
         let [p1, p0] = two_octets(Address::number_or_0(fields.parent));
         let [t1, t0] = two_octets(fields.tree.0);
         [
-            Kind::Stc.code(),
+            Kind::Stc.into(),
             17,
             s1,
             s0,

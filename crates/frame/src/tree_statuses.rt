@@ -77,7 +77,7 @@ impl TreeStatus {
         let [t1, t0] = two_octets(fields.tree.0);
         let [d1, d0] = two_octets(fields.descendants);
         [
-            Kind::TreeStatus.code(),
+            Kind::TreeStatus.into(),
             13,
             s1,
             s0,

@@ -23,7 +23,7 @@ fn split_group(octets: &[u8], code: LinkCode) -> (&[u8], &[u8])
     ensures short { length result.0.now < 256 }
 {
     match octets {
-        [first, size, ..] if *first == code.code() && is_size(*size as usize, octets.len()) => {
+        [first, size, ..] if *first == u8::from(code) && is_size(*size as usize, octets.len()) => {
             (&octets[2..*size as usize], &octets[*size as usize..])
         }
         _ => (&octets[0..0], octets),

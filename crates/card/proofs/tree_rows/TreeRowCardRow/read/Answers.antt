@@ -18,7 +18,7 @@ returns c =
     let low : 17 ≤ length xs = search rules in
     let high : length xs < 18 = search rules in
     let octets : Octets xs = λ i. (c.type_inv.octets i).fits in
-    let parent : number_or_0 c.from_number.result ≡ wide_at xs 6 = ap number_or_0 c.from_number.ensures ∙ number_of_address c.from_be_bytes-4.result ∙ c.from_be_bytes-4.ensures in
+    let parent : number_or_0 c.ok.result ≡ wide_at xs 6 = ap number_or_0 (c.ok.ensures.value ∙ c.try_from.ensures) ∙ number_of_address c.from_be_bytes-4.result ∙ c.from_be_bytes-4.ensures in
     let valid : c.from_be_bytes-5.result ≡ long_at xs 8 = omega (arith, c.from_be_bytes-5.ensures) in
-    let row : TreeRow = record { root = record { 0 = c.from_be_bytes.result }; wave = record { 0 = c.from_be_bytes-2.result }; cost = c.from_be_bytes-3.result; parent = c.from_number.result; valid_until = c.from_be_bytes-5.result; ttl = at xs 12; flags = record { 0 = at xs 13 }; tree = record { 0 = c.from_be_bytes-6.result }; owed = c.in_ok-owed.owed } in
-    (tree_is xs octets (omega arith) row c.from_be_bytes.ensures c.from_be_bytes-2.ensures c.from_be_bytes-3.ensures parent valid refl refl c.from_be_bytes-6.ensures c.in_ok-owed.ensures, ap named c.from_number.ensures ∙ named_address c.from_be_bytes-4.result)
+    let row : TreeRow = record { root = record { 0 = c.from_be_bytes.result }; wave = record { 0 = c.from_be_bytes-2.result }; cost = c.from_be_bytes-3.result; parent = c.ok.result; valid_until = c.from_be_bytes-5.result; ttl = at xs 12; flags = record { 0 = at xs 13 }; tree = record { 0 = c.from_be_bytes-6.result }; owed = c.in_ok-owed.owed } in
+    (tree_is xs octets (omega arith) row c.from_be_bytes.ensures c.from_be_bytes-2.ensures c.from_be_bytes-3.ensures parent valid refl refl c.from_be_bytes-6.ensures c.in_ok-owed.ensures, ap named (c.ok.ensures.value ∙ c.try_from.ensures) ∙ named_address c.from_be_bytes-4.result)

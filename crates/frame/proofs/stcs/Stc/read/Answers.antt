@@ -18,8 +18,8 @@ returns c =
     let low : 15 ≤ length xs = search rules in
     let high : length xs < 16 = search rules in
     let n : length xs ≡ 15 = omega arith in
-    let parent : number_or_0 c.from_number.result ≡ wide_at xs 8 =
-    ap number_or_0 c.from_number.ensures ∙ number_of_address c.from_be_bytes-5.result ∙ c.from_be_bytes-5.ensures in
+    let parent : number_or_0 c.ok.result ≡ wide_at xs 8 =
+    ap number_or_0 (c.ok.ensures.value ∙ c.try_from.ensures) ∙ number_of_address c.from_be_bytes-5.result ∙ c.from_be_bytes-5.ensures in
     let octets : Octets xs = λ i. (c.type_inv.fields i).fits in
     let same =
     stc_same xs _ c.from_be_bytes.ensures c.from_be_bytes-2.ensures c.from_be_bytes-3.ensures c.from_be_bytes-4.ensures parent refl refl refl c.from_be_bytes-6.ensures in
