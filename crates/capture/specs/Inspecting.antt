@@ -1,23 +1,24 @@
 -- What a line is shown as.
-use Rattle.std.specs.Prelude.{◌≡◌, ℕ, ◌⊎◌, List, ◌++◌, Some, None, Ok, Err, string_bytes, codes, decimal}
-use Rattle.frame.specs.Faults.{read_fault_number}
+use Rattle.std.specs.Prelude.{◌≡◌, ℕ, ⊤, List, ◌++◌, String, Some, None, Ok, Err, Result, string_bytes, codes, decimal}
+use Rattle.std.specs.Global.{Global}
 use Rattle.frame.specs.Reading.{Reads}
-use Rattle.frame.specs.declared.faults.ReadFault.{ReadFault}
 use Rattle.frame.specs.declared.messages.Message.{Message}
 use Rattle.capture.specs.Hexadecimal.{spelt}
+use Rattle.capture.specs.Refusals.{refusal_number}
 use Rattle.message_text.specs.Texts.{message_text}
-use Rattle.capture.specs.declared.lines.Inspected.{Inspected}
-use Rattle.capture.specs.declared.lines.Inspected.TheVariants as inspected
+use Rattle.capture.specs.declared.faults.LineFault.{LineFault}
+use Rattle.capture.specs.declared.faults.LineFault.TheVariants.{NoMemory, NoOctets, NoMessage, NoRecord}
 
 -- a line whose octets are a message; one that is no list of octets; one whose octets are refused
-abbrev pub Inspects : List ℕ → Inspected → Type 0
-Inspects line (inspected.Message text) =
+abbrev pub Inspects : List ℕ → Result (String Global) LineFault → Type 0
+Inspects line (Ok text) =
     (xs : List ℕ) × (m : Message) × (spelt line ≡ Some xs) × Reads xs (Ok m) × (string_bytes text ≡ message_text m ++ codes " rewritten=same")
-Inspects line (inspected.Refused n) =
-    ((spelt line ≡ None) × (n ≡ 0))
-    ⊎ ((xs : List ℕ) × (f : ReadFault) × (spelt line ≡ Some xs) × Reads xs (Err f) × (n ≡ read_fault_number f))
+Inspects line (Err NoOctets) = spelt line ≡ None
+Inspects line (Err (NoMessage f)) = (xs : List ℕ) × (spelt line ≡ Some xs) × Reads xs (Err f)
+Inspects line (Err (NoRecord f)) = ⊥
+Inspects line (Err (NoMemory e)) = ⊤
 
--- what is printed of it
-abbrev pub inspected_text : Inspected → List ℕ
-inspected_text (inspected.Message text) = string_bytes text
-inspected_text (inspected.Refused n) = codes "? " ++ decimal n
+-- the text, or the number of the refusal
+abbrev pub Shows : Result (String Global) LineFault → List ℕ → Type 0
+Shows (Ok text) shown = shown ≡ string_bytes text
+Shows (Err fault) shown = (n : ℕ) × (refusal_number fault ≡ Some n) × (shown ≡ codes "? " ++ decimal n)

@@ -1,2 +1,3 @@
 pub mod Hexadecimal
 pub mod Inspecting
+pub mod Refusals

@@ -1,9 +1,12 @@
 // Captured messages: lines of hexadecimal octets, and what is shown of them.
 #![tactic(auto)]
 
+mod faults;
 mod hexadecimal;
 mod lines;
 mod rewriting;
 
+pub use faults::LineFault;
 pub use hexadecimal::read_octets;
-pub use lines::{Inspected, inspect_line};
+pub use lines::{inspect_line, show};
+pub use rewriting::compare;

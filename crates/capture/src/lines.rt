@@ -1,43 +1,33 @@
-ghost use Rattle.capture.specs.Inspecting.{Inspects, inspected_text};
-ghost use Rattle.std.specs.Prelude.{IfOk, Some};
+ghost use Rattle.capture.specs.Inspecting.{Inspects, Shows};
+ghost use Rattle.std.specs.Prelude.{IfOk, string_bytes};
 
+use super::faults::LineFault;
 use super::hexadecimal::read_octets;
-use super::rewriting::compare;
+use super::rewriting::rewrite;
 use message_text::describe;
 use std::alloc::{AllocError, Global};
-use std::fmt;
 
-// What a line is shown as: a message with its fields, or the number of a refusal.
-#[derive(Drop)]
-pub enum Inspected {
-    Message(String),
-    Refused(u8),
-}
-
-impl fmt::Display for Inspected {
-    ghost output = { λ x. Some (inspected_text x) };
-
-    fn fmt<W: fmt::Write>(&self, f: &mut fmt::Formatter<W>) -> fmt::Result {
-        match self {
-            Inspected::Message(text) => f.write_str(text.as_str()),
-            Inspected::Refused(number) => write!(f, "? {number}"),
-        }
-    }
-}
-
-pub fn inspect_line(heap: Global, line: &[u8]) -> Result<Inspected, AllocError>
-    ensures { IfOk result (Inspects line.now) }
+// The message that the line spells, with its fields, and whether it is written again as it was read.
+pub fn inspect_line(heap: Global, line: &[u8]) -> Result<String, LineFault>
+    ensures { Inspects line.now result }
 {
-    let Some(octets) = read_octets(heap, line)? else {
-        return Ok(Inspected::Refused(0));
-    };
+    let octets = read_octets(heap, line)?.ok_or(LineFault::NoOctets)?;
     let octets = octets.as_slice();
-    match frame::read(octets) {
-        Ok(message) => {
-            let text = describe(heap, message)?;
-            let rewritten = compare(message, octets);
-            Ok(Inspected::Message(format!(in heap; "{text} rewritten={rewritten}")?))
+    let message = frame::read(octets)?;
+    let text = describe(heap, message)?;
+    let rewritten = rewrite(message, octets);
+    Ok(format!(in heap; "{text} rewritten={rewritten}")?)
+}
+
+// What is printed of an inspected line.
+pub fn show(heap: Global, inspected: Result<String, LineFault>) -> Result<String, AllocError>
+    ensures { IfOk result (λ t. Shows inspected (string_bytes t)) }
+{
+    match inspected {
+        Ok(text) => Ok(text),
+        Err(fault) => {
+            let number = u8::try_from(fault)?;
+            format!(in heap; "? {number}")
         }
-        Err(fault) => Ok(Inspected::Refused(fault.into())),
     }
 }

@@ -3,24 +3,21 @@ ghost use Rattle.frame.specs.Reading.{Reads};
 
 use frame::Message;
 
-// How what is written compares with the octets that the message was read from.
-pub fn compare(message: Message<'_>, octets: &[u8]) -> &'static str
+// The longest message.
+const MOST_OCTETS: usize = 43;
+
+// How the message compares with the octets that it was read from once it is written again.
+pub fn rewrite(message: Message<'_>, octets: &[u8]) -> &'static str
     ensures { Reads octets.now (Ok message.entry) → result.now ≡ codes "same" }
 {
-    if is_rewritten(message, octets) {
-        "same"
-    } else {
-        "different"
-    }
+    let mut out = [0; MOST_OCTETS];
+    let len = message.write(&mut out).unwrap_or(0);
+    compare(&out[..len], octets)
 }
 
-// Whether writing the message gives the octets that it was read from.
-fn is_rewritten(message: Message<'_>, octets: &[u8]) -> bool
-    ensures { Reads octets.now (Ok message.entry) → result ≡ true }
+pub fn compare(written: &[u8], read: &[u8]) -> &'static str
+    ensures same { written.now ≡ read.now → result.now ≡ codes "same" }
+    ensures different { (written.now ≡ read.now → ⊥) → result.now ≡ codes "different" }
 {
-    let mut out = [0; 43];
-    let Ok(len) = message.write(&mut out) else {
-        return false;
-    };
-    len <= 43 && &out[0..len] == octets
+    if written == read { "same" } else { "different" }
 }

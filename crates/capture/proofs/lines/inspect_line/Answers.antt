@@ -3,13 +3,13 @@ use Rattle.std.specs.Option.{option_map}
 use Rattle.message_text.specs.Texts.{message_text}
 use Rattle.capture.proofs.lines.inspect_line.Goals as goal
 
-pub returns-in-Ok : goal.returns-in-Ok
-returns-in-Ok c =
+pub returns : goal.returns
+returns c =
     let xs = c.as_slice-octets.result.now in
-    let reads = c.in-Ok.ensures in
-    let spelt = sym c.in_ok-octets.ensures ∙ ap (option_map vec_items) c.in-Some.is ∙ ap Some (sym c.as_slice-octets.ensures.value) in
+    let reads = c.in_ok-message.ensures in
+    let spelt = sym c.in_ok-read_octets.ensures ∙ ap (option_map vec_items) c.in_ok-octets.ensures.ok_part ∙ ap Some (sym c.as_slice-octets.ensures.value) in
     let text =
-    c.in_ok-format-in-Ok.ensures.ok
-    ∙ ap (λ l. l ++ (codes " rewritten=" ++ c.compare-rewritten.result.now)) c.in_ok-text-in-Ok.ensures
-    ∙ ap (λ l. message_text c.in-Ok.message ++ (codes " rewritten=" ++ l)) (c.compare-rewritten.ensures reads) in
-    (xs, c.in-Ok.message, spelt, reads, text)
+    c.in_ok-format.ensures.ok
+    ∙ ap (λ l. l ++ (codes " rewritten=" ++ c.rewrite-rewritten.result.now)) c.in_ok-text.ensures
+    ∙ ap (λ l. message_text c.in_ok-message.message ++ (codes " rewritten=" ++ l)) (c.rewrite-rewritten.ensures reads) in
+    (xs, c.in_ok-message.message, spelt, reads, text)

@@ -1,0 +1,58 @@
+ghost use Rattle.std.specs.Prelude.{◌≡◌};
+ghost use Rattle.capture.specs.declared.faults.LineFault.TheVariants.{NoMemory, NoMessage, NoRecord};
+ghost use Rattle.std.specs.Result.{result_ok};
+ghost use Rattle.capture.specs.Refusals.{refusal_number};
+
+use frame::ReadFault;
+use record::RecordFault;
+use std::alloc::AllocError;
+
+// Why a line is not shown.
+#[derive(Clone, Copy, PartialEq, Eq)]
+pub enum LineFault {
+    NoMemory(AllocError),
+    // no list of octets
+    NoOctets,
+    NoMessage(ReadFault),
+    NoRecord(RecordFault),
+}
+
+impl From<AllocError> for LineFault {
+    ghost from_gives = { λ e fault. fault ≡ NoMemory e };
+
+    fn from(error: AllocError) -> LineFault {
+        LineFault::NoMemory(error)
+    }
+}
+
+impl From<ReadFault> for LineFault {
+    ghost from_gives = { λ e fault. fault ≡ NoMessage e };
+
+    fn from(fault: ReadFault) -> LineFault {
+        LineFault::NoMessage(fault)
+    }
+}
+
+impl From<RecordFault> for LineFault {
+    ghost from_gives = { λ e fault. fault ≡ NoRecord e };
+
+    fn from(fault: RecordFault) -> LineFault {
+        LineFault::NoRecord(fault)
+    }
+}
+
+// The number of a refusal; want of memory is none.
+impl TryFrom<LineFault> for u8 {
+    type Error = AllocError;
+
+    ghost try_from_gives = { λ fault r. result_ok r ≡ refusal_number fault };
+
+    fn try_from(fault: LineFault) -> Result<u8, AllocError> {
+        match fault {
+            LineFault::NoMemory(error) => Err(error),
+            LineFault::NoOctets => Ok(0),
+            LineFault::NoMessage(fault) => Ok(fault.into()),
+            LineFault::NoRecord(fault) => Ok(fault.number()),
+        }
+    }
+}
