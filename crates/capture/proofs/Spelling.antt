@@ -1,5 +1,5 @@
 -- Reading a line goes from each octet or blank to what follows it.
-use Rattle.std.proofs.Common.{◌≡◌, ℕ, ◌≤◌, true, false, List, [], ◌∷◌, ◌++◌, length, drop, Some, None, Option, sym, refl, ap, ◌∙◌, arith}
+use Rattle.std.proofs.Common.{◌≡◌, ℕ, ◌≤◌, false, List, [], ◌∷◌, ◌++◌, length, drop, Some, None, Option, sym, refl, ap, ◌∙◌, arith}
 use Rattle.std.proofs.lemmas.List.{append_assoc}
 use Rattle.std.specs.Option.{option_map}
 use Rattle.field.specs.Wide.{at}
@@ -8,11 +8,6 @@ use Rattle.capture.specs.Hexadecimal.{blank, digit, octet, led_by, spelt}
 -- octets that were read, before those that are left
 abbrev pub ahead : List ℕ → Option (List ℕ) → Option (List ℕ)
 ahead before left = option_map (λ (l : List ℕ). before ++ l) left
-
-pub spelt_blank : (xs : List ℕ) → 1 ≤ length xs → blank (at xs 0) ≡ true → spelt xs ≡ spelt (drop 1 xs)
-spelt_blank [] h b = absurd (omega arith)
-spelt_blank (c ∷ []) h b = rw b
-spelt_blank (c ∷ d ∷ rest) h b = rw b
 
 pub spelt_more : (xs : List ℕ) → 2 ≤ length xs → blank (at xs 0) ≡ false → spelt xs ≡ led_by (octet (digit (at xs 0)) (digit (at xs 1))) (spelt (drop 2 xs))
 spelt_more [] h b = absurd (omega arith)
@@ -23,7 +18,7 @@ pub led_ahead : (before : List ℕ) (o : ℕ) (left : Option (List ℕ)) → ahe
 led_ahead before o (Some l) = ap Some (sym (append_assoc before (o ∷ []) l))
 led_ahead before o None = refl
 
--- ---- a turn of the loop, at an octet and at two characters that are none
+-- ---- a turn of the loop at an octet
 
 module _ (xs acc : List ℕ) (line : Option (List ℕ)) (two : 2 ≤ length xs) (word : blank (at xs 0) ≡ false) (so_far : ahead acc (spelt xs) ≡ line) where
   pub octet_turn : (o : ℕ) (acc' rest : List ℕ) → Some o ≡ octet (digit (at xs 0)) (digit (at xs 1)) → acc' ≡ acc ++ o ∷ [] → rest ≡ drop 2 xs → ahead acc' (spelt rest) ≡ line
@@ -34,6 +29,3 @@ module _ (xs acc : List ℕ) (line : Option (List ℕ)) (two : 2 ≤ length xs) 
       ∙ ap (λ p. ahead acc (led_by p (spelt (drop 2 xs)))) is
       ∙ ap (ahead acc) (sym (spelt_more xs two word))
       ∙ so_far
-
-  pub no_octet : None ≡ octet (digit (at xs 0)) (digit (at xs 1)) → None ≡ line
-  no_octet is = ap (λ p. ahead acc (led_by p (spelt (drop 2 xs)))) is ∙ ap (ahead acc) (sym (spelt_more xs two word)) ∙ so_far

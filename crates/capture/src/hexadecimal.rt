@@ -7,19 +7,14 @@ use std::alloc::{AllocError, Global};
 fn is_blank(c: u8) -> bool
     ensures { result ≡ blank c }
 {
-    c == b' ' || c == b'\t' || c == b'\r'
+    matches!(c, b' ' | b'\t' | b'\r')
 }
 
-fn digit_of(c: u8) -> Option<u8>
+fn digit_of(c: u8) -> Option<u32>
     ensures value { result ≡ digit c }
     ensures bound { IfSome result (λ d. d < 16) }
 {
-    match c {
-        b'0'..=b'9' => Some(c - b'0'),
-        b'A'..=b'F' => Some(c - b'A' + 10),
-        b'a'..=b'f' => Some(c - b'a' + 10),
-        _ => None,
-    }
+    char::from(c).to_digit(16)
 }
 
 fn octet_of(first: u8, second: u8) -> Option<u8>
@@ -27,7 +22,7 @@ fn octet_of(first: u8, second: u8) -> Option<u8>
 {
     let high = digit_of(first)?;
     let low = digit_of(second)?;
-    Some(high * 16 + low)
+    Some((high * 16 + low) as u8)
 }
 
 // The octets that a line spells, or none where it is no list of octets.
@@ -36,9 +31,9 @@ pub fn read_octets(heap: Global, line: &[u8]) -> Result<Option<Vec<u8>>, AllocEr
 {
     let mut octets = Vec::new(heap);
     let mut left = line;
-    while let [first, ..] = left {
+    while let [first, rest @ ..] = left {
         if is_blank(*first) {
-            left = &left[1..];
+            left = rest;
             continue;
         }
         let [_, second, rest @ ..] = left else {
