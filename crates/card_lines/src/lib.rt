@@ -4,4 +4,4 @@
 mod lines;
 mod rewriting;
 
-pub use lines::{InspectedLine, inspect};
+pub use lines::inspect;

@@ -1,26 +1,19 @@
-ghost use Rattle.std.specs.Prelude.{◌≡◌, true, Ok, codes};
-ghost use Rattle.card.specs.Cards.{ReadsCard};
+ghost use Rattle.std.specs.Prelude.{◌≡◌, ◌≢◌, codes};
+ghost use Rattle.card.specs.Octets.{card};
+ghost use Rattle.record.specs.Records.{state};
 
+use capture::compare;
 use record::Record;
 
-// How what is written compares with the octets that the record was read from.
-pub fn compare_card(held: &Record, octets: &[u8]) -> &'static str
-    ensures { ReadsCard octets.now (Ok held.now) → result.now ≡ codes "same" }
-{
-    if is_card_rewritten(held, octets) {
-        "same"
-    } else {
-        "different"
-    }
-}
+// The longest card.
+const MOST_OCTETS: usize = 270;
 
-// Whether writing the record gives the octets that it was read from.
-fn is_card_rewritten(held: &Record, octets: &[u8]) -> bool
-    ensures { ReadsCard octets.now (Ok held.now) → result ≡ true }
+// How the record's card compares with the octets that the record was read from.
+pub fn rewrite_card(held: &Record, octets: &[u8]) -> &'static str
+    ensures same { card (state held.now) ≡ octets.now → result.now ≡ codes "same" }
+    ensures different { card (state held.now) ≢ octets.now → result.now ≡ codes "different" }
 {
-    let mut out = [0; 270];
-    let Ok(len) = card::write(held, &mut out) else {
-        return false;
-    };
-    len <= 270 && &out[0..len] == octets
+    let mut out = [0; MOST_OCTETS];
+    let len = card::write(held, &mut out).unwrap_or(0);
+    compare(&out[..len], octets)
 }

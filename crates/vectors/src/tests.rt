@@ -1,3 +1,4 @@
+use capture::{inspect_line, show};
 use field::{Address, LinkCode};
 use frame::{Message, Stc, StcFields, read};
 use std::test::Fail;
@@ -45,5 +46,18 @@ fn a_hello_lists_its_neighbours(rt: HostRuntime) -> Result<(), Fail> {
     assert!(rt; !groups.list(Address(20)));
     assert!(rt; groups.addresses(LinkCode::Sym).count() == 2);
     assert!(rt; groups.addresses(LinkCode::Asym).count() == 1);
+    Ok(())
+}
+
+#[test]
+fn a_line_is_shown_as_its_message_or_its_refusal(rt: HostRuntime) -> Result<(), Fail> {
+    let stc = b"02 11 00 0A 00 01 00 0A 00 00 00 00 78 20 00 00 00";
+    let message = show(rt.alloc(), inspect_line(rt.alloc(), stc))?;
+    assert!(rt;
+        message.as_str()
+            == "STC sender=10 wave=1 root=10 cost=0 parent=none vtime=120 ttl=32 flags=none tree=0 rewritten=same"
+    );
+    let refusal = show(rt.alloc(), inspect_line(rt.alloc(), &stc[0..14]))?;
+    assert!(rt; refusal.as_str() == "? 3");
     Ok(())
 }

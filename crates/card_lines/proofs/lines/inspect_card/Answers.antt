@@ -4,13 +4,13 @@ use Rattle.record.specs.Records.{state}
 use Rattle.record_text.specs.Texts.{record_text}
 use Rattle.card_lines.proofs.lines.inspect_card.Goals as goal
 
-pub returns-in-Ok : goal.returns-in-Ok
-returns-in-Ok c =
+pub returns : goal.returns
+returns c =
     let xs = c.as_slice-octets.result.now in
-    let reads = c.in-Ok.ensures in
-    let spelt = sym c.in_ok-octets.ensures ∙ ap (option_map vec_items) c.in-Some.is ∙ ap Some (sym c.as_slice-octets.ensures.value) in
+    let reads = c.in_ok-held.ensures in
+    let spelt = sym c.in_ok-read_octets.ensures ∙ ap (option_map vec_items) c.in_ok-octets.ensures.ok_part ∙ ap Some (sym c.as_slice-octets.ensures.value) in
     let text =
-    c.in_ok-format-in-Ok.ensures.ok
-    ∙ ap (λ l. l ++ (codes " rewritten=" ++ c.compare_card-rewritten.result.now)) c.in_ok-text-in-Ok.ensures
-    ∙ ap (λ l. record_text (state c.in-Ok.held) ++ (codes " rewritten=" ++ l)) (c.compare_card-rewritten.ensures reads) in
-    (xs, c.in-Ok.held, spelt, reads, text)
+    c.in_ok-format.ensures.ok
+    ∙ ap (λ l. l ++ (codes " rewritten=" ++ c.rewrite_card-rewritten.result.now)) c.in_ok-text.ensures
+    ∙ ap (λ l. record_text (state c.in_ok-held.held) ++ (codes " rewritten=" ++ l)) (c.rewrite_card-rewritten.ensures.same reads) in
+    (xs, c.in_ok-held.held, spelt, reads, text)
