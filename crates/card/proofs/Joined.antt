@@ -2,7 +2,7 @@
 use Rattle.std.proofs.Common.{◌≡◌, ℕ, zero, suc, ◌+◌, ◌*◌, ◌<◌, ◌≤◌, Bool, true, List, [], ◌∷◌, ◌++◌, length, get_or, take, drop, sym, refl, ap, ◌∙◌, ap₂, add-mul, one-mul, zero-mul, arith, length-append}
 use Rattle.std.proofs.lemmas.List.{append_assoc, append-nil, take_more, take_at, drop_at}
 use Rattle.std.proofs.lemmas.Bool.{and_parts}
-use Rattle.table.specs.Filters.{every}
+use Rattle.std.specs.List.{list_all}
 use Rattle.card.specs.Octets.{joined}
 
 module _ {X : Type 0} (written : X → List ℕ) where
@@ -38,13 +38,13 @@ module _ {X : Type 0} (written : X → List ℕ) where
     joined_next (x ∷ xs) (suc k) left e some = let n = joined_next xs k left e some in (n.0, omega (arith, n.1), n.2, n.3)
 
     -- octets have one list of rows, if they have one row each
-    pub joined_one : (plain : X → Bool) → ((x y : X) → plain x ≡ true → plain y ≡ true → written x ≡ written y → x ≡ y) → 1 ≤ wide → (xs ys : List X) → every plain xs ≡ true → every plain ys ≡ true → joined written xs ≡ joined written ys → xs ≡ ys
+    pub joined_one : (plain : X → Bool) → ((x y : X) → plain x ≡ true → plain y ≡ true → written x ≡ written y → x ≡ y) → 1 ≤ wide → (xs ys : List X) → list_all plain xs ≡ true → list_all plain ys ≡ true → joined written xs ≡ joined written ys → xs ≡ ys
     joined_one plain one some [] [] p q e = refl
     joined_one plain one some [] (y ∷ ys) p q e = absurd (omega (arith, ap length e, length-append (written y) (joined written ys), sized y))
     joined_one plain one some (x ∷ xs) [] p q e = absurd (omega (arith, ap length e, length-append (written x) (joined written xs), sized x))
     joined_one plain one some (x ∷ xs) (y ∷ ys) p q e =
-        let left = and_parts (plain x) (every plain xs) p in
-        let right = and_parts (plain y) (every plain ys) q in
+        let left = and_parts (plain x) (list_all plain xs) p in
+        let right = and_parts (plain y) (list_all plain ys) q in
         let first : written x ≡ written y = sym (take_at (written x) (joined written xs) wide (sized x)) ∙ ap (take wide) e ∙ take_at (written y) (joined written ys) wide (sized y) in
         let rest : joined written xs ≡ joined written ys = sym (drop_at (written x) (joined written xs) wide (sized x)) ∙ ap (drop wide) e ∙ drop_at (written y) (joined written ys) wide (sized y) in
         ap₂ (λ z zs. z ∷ zs) (one x y left.0 right.0 first) (joined_one plain one some xs ys left.1 right.1 rest)

@@ -5,7 +5,7 @@ use Rattle.std.proofs.lemmas.Bool.{and_parts, and_from}
 use Rattle.field.proofs.Fields.{one_class}
 use Rattle.field.specs.Wide.{at, wide_at, long_at}
 use Rattle.table.proofs.Laws.{rows_few}
-use Rattle.table.specs.Filters.{every}
+use Rattle.std.specs.List.{list_all}
 use Rattle.table.specs.Keys.{apart}
 use Rattle.record.specs.Lawful.{lawful_tree, named, tree_key, last_until}
 use Rattle.record.specs.Records.{state}
@@ -29,14 +29,14 @@ lawful_plain row h =
     let both = and_parts ((ltb 0 row.root.0 && ltb 0 row.wave.0) && (plain row && leb row.valid_until last_until)) _ h in
     (and_parts (plain row) (leb row.valid_until last_until) (and_parts (ltb 0 row.root.0 && ltb 0 row.wave.0) _ both.0).1).0
 
-every_plain : (rows : List TreeRow) → every lawful_tree rows ≡ true → every plain rows ≡ true
+every_plain : (rows : List TreeRow) → list_all lawful_tree rows ≡ true → list_all plain rows ≡ true
 every_plain [] h = refl
 every_plain (row ∷ rows) h =
-    let both = and_parts (lawful_tree row) (every lawful_tree rows) h in
-    and_from (plain row) (every plain rows) (lawful_plain row both.0) (every_plain rows both.1)
+    let both = and_parts (lawful_tree row) (list_all lawful_tree rows) h in
+    and_from (plain row) (list_all plain rows) (lawful_plain row both.0) (every_plain rows both.1)
 
-pub record_plain : (r : Record) → every plain (state r).trees ≡ true
-record_plain r = every_plain (state r).trees (and_parts (every lawful_tree (state r).trees) (apart tree_key (state r).trees) r.trees_lawful).0
+pub record_plain : (r : Record) → list_all plain (state r).trees ≡ true
+record_plain r = every_plain (state r).trees (and_parts (list_all lawful_tree (state r).trees) (apart tree_key (state r).trees) r.trees_lawful).0
 
 pub neighbours_length : (rows : List NeighbourRow) → length (joined neighbour_octets rows) ≡ length rows * 12
 neighbours_length = joined_length neighbour_octets 12 (λ x. refl)
@@ -48,12 +48,12 @@ pub card_length : (s : State) → length (card s) ≡ 10 + length s.neighbours *
 card_length s =
     omega (arith, length-append (joined neighbour_octets s.neighbours) (joined tree_octets s.trees), neighbours_length s.neighbours, trees_length s.trees)
 
-every_row : (rows : List NeighbourRow) → every (λ _. true) rows ≡ true
+every_row : (rows : List NeighbourRow) → list_all (λ _. true) rows ≡ true
 every_row [] = refl
 every_row (row ∷ rows) = every_row rows
 
 -- the rows of a card, where there are as many neighbours
-one_rows : (s t : State) → length s.neighbours ≡ length t.neighbours → every plain s.trees ≡ true → every plain t.trees ≡ true → joined neighbour_octets s.neighbours ++ joined tree_octets s.trees ≡ joined neighbour_octets t.neighbours ++ joined tree_octets t.trees → (s.neighbours ≡ t.neighbours) × (s.trees ≡ t.trees)
+one_rows : (s t : State) → length s.neighbours ≡ length t.neighbours → list_all plain s.trees ≡ true → list_all plain t.trees ≡ true → joined neighbour_octets s.neighbours ++ joined tree_octets s.trees ≡ joined neighbour_octets t.neighbours ++ joined tree_octets t.trees → (s.neighbours ≡ t.neighbours) × (s.trees ≡ t.trees)
 one_rows s t n ps pt e =
     let ns = joined neighbour_octets s.neighbours in
     let nt = joined neighbour_octets t.neighbours in
@@ -66,7 +66,7 @@ one_rows s t n ps pt e =
     let far : ts ≡ tt' = sym (drop_at ns ts k ks) ∙ ap (drop k) e ∙ drop_at nt tt' k kt in
     (joined_one neighbour_octets 12 (λ x. refl) (λ _. true) (λ x y p q. one_neighbour x y) (omega arith) s.neighbours t.neighbours (every_row s.neighbours) (every_row t.neighbours) near, joined_one tree_octets 17 (λ x. refl) plain one_tree (omega arith) s.trees t.trees ps pt far)
 
-pub one_card : (s t : State) → every plain s.trees ≡ true → every plain t.trees ≡ true → card s ≡ card t → s ≡ t
+pub one_card : (s t : State) → list_all plain s.trees ≡ true → list_all plain t.trees ≡ true → card s ≡ card t → s ≡ t
 one_card s t ps pt e =
     let a : s.address ≡ t.address = omega (arith, ap (λ l. wide_at l 0) e) in
     let c : s.class ≡ t.class = one_class s.class t.class (ap (λ l. at l 2) e) in

@@ -1,7 +1,7 @@
 ghost use Rattle.std.specs.Prelude.{◌≡◌, ℕ, ◌+◌, ◌≤◌, Bool, true, List, length, MatchOption, ◌≢◌};
 ghost use Rattle.card.specs.Octets.{joined};
 ghost use Rattle.card.specs.Placing.{placed};
-ghost use Rattle.table.specs.Filters.{every};
+ghost use Rattle.std.specs.List.{list_all};
 ghost use Rattle.table.specs.Rows.{rows};
 
 use table::Table;
@@ -34,7 +34,7 @@ pub trait CardRow: Copy {
 
 // The rows that the octets are, at most N.
 pub fn read_rows<R: CardRow, const N: usize>(octets: &[u8], filler: R) -> Option<Table<R, N>>
-    ensures { MatchOption result ((xs : List R) → length xs ≤ N → joined R.CardRow.written xs ≢ octets.now) (λ t. (joined R.CardRow.written (rows t) ≡ octets.now) × (every R.CardRow.plain (rows t) ≡ true)) }
+    ensures { MatchOption result ((xs : List R) → length xs ≤ N → joined R.CardRow.written xs ≢ octets.now) (λ t. (joined R.CardRow.written (rows t) ≡ octets.now) × (list_all R.CardRow.plain (rows t) ≡ true)) }
 {
     let width = R::width();
     let mut all = Table::new(filler);

@@ -1,2 +1,1 @@
 pub mod Settled
-pub mod Walk

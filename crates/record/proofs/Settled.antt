@@ -4,7 +4,7 @@ use Rattle.std.proofs.lemmas.Bool.{and_parts, and_from}
 use Rattle.field.specs.Bits.{suits}
 use Rattle.table.proofs.Apart.{apart_kept, apart_map}
 use Rattle.table.proofs.Every.{every_kept, every_map}
-use Rattle.table.specs.Filters.{every}
+use Rattle.std.specs.List.{list_all}
 use Rattle.table.specs.Keys.{apart}
 use Rattle.record.specs.Lawful.{lawful_neighbour, lawful_neighbours, lawful_tree, lawful_trees, named, tree_key, last_until}
 use Rattle.record.specs.Settling.{heard, lapses, lapsed, orphan, SettlingAgain}
@@ -15,8 +15,8 @@ use Rattle.record.specs.declared.rows.TreeRow.{TreeRow}
 
 pub neighbours_kept : (p : NeighbourRow → Bool) (own : ℕ) (near : List NeighbourRow) → lawful_neighbours own near ≡ true → lawful_neighbours own (filter p near) ≡ true
 neighbours_kept p own near h =
-    let both = and_parts (every (lawful_neighbour own) near) (apart neighbour_key near) h in
-    and_from (every (lawful_neighbour own) (filter p near)) (apart neighbour_key (filter p near)) (every_kept (lawful_neighbour own) p near both.0) (apart_kept neighbour_key p near both.1)
+    let both = and_parts (list_all (lawful_neighbour own) near) (apart neighbour_key near) h in
+    and_from (list_all (lawful_neighbour own) (filter p near)) (apart neighbour_key (filter p near)) (every_kept (lawful_neighbour own) p near both.0) (apart_kept neighbour_key p near both.1)
 
 orphan_lawful : (row : TreeRow) → lawful_tree row ≡ true → lawful_tree (orphan row) ≡ true
 orphan_lawful row h =
@@ -36,8 +36,8 @@ module _ (own : ℕ) (near : List NeighbourRow) (t : ℕ) where
 
   pub trees_lapsed : (rows : List TreeRow) → lawful_trees rows ≡ true → lawful_trees (map (lapsed own near t) rows) ≡ true
   trees_lapsed rows h =
-      let both = and_parts (every lawful_tree rows) (apart tree_key rows) h in
-      and_from (every lawful_tree (map (lapsed own near t) rows)) (apart tree_key (map (lapsed own near t) rows)) (every_map lawful_tree (lapsed own near t) lapsed_lawful rows both.0) (apart_map tree_key (lapsed own near t) lapsed_key rows ∙ both.1)
+      let both = and_parts (list_all lawful_tree rows) (apart tree_key rows) h in
+      and_from (list_all lawful_tree (map (lapsed own near t) rows)) (apart tree_key (map (lapsed own near t) rows)) (every_map lawful_tree (lapsed own near t) lapsed_lawful rows both.0) (apart_map tree_key (lapsed own near t) lapsed_key rows ∙ both.1)
 
   -- a row that has lapsed can lapse no further
   lapsed_again : (row : TreeRow) → lapsed own near t (lapsed own near t row) ≡ lapsed own near t row

@@ -2,7 +2,7 @@
 use Rattle.std.specs.Prelude.{◌≡◌, ℕ, ◌≤◌, Bool, true, not, ◌&&◌, ◌||◌, List, Some, None, Option, ◌==◌, nat_le, nat_lt}
 use Rattle.field.specs.Bits.{suits}
 use Rattle.field.specs.declared.numbers.Address.{Address}
-use Rattle.table.specs.Filters.{every}
+use Rattle.std.specs.List.{list_all}
 use Rattle.table.specs.Keys.{apart}
 use Rattle.record.specs.States.{State}
 use Rattle.record.specs.Symmetry.{neighbour_key}
@@ -35,10 +35,10 @@ abbrev pub tree_key : TreeRow → ℕ
 tree_key row = row.root.0
 
 abbrev pub lawful_neighbours : ℕ → List NeighbourRow → Bool
-lawful_neighbours own rows = every (lawful_neighbour own) rows && apart neighbour_key rows
+lawful_neighbours own rows = list_all (lawful_neighbour own) rows && apart neighbour_key rows
 
 abbrev pub lawful_trees : List TreeRow → Bool
-lawful_trees rows = every lawful_tree rows && apart tree_key rows
+lawful_trees rows = list_all lawful_tree rows && apart tree_key rows
 
 pub record Lawful (s : State) : Type 0 where
   pub address : 1 ≤ s.address

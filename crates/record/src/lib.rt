@@ -6,7 +6,6 @@ mod laws;
 mod limits;
 mod records;
 mod rows;
-mod settling;
 mod tuning;
 
 pub use faults::{RecordFault, SettingsFault, TimeFault};
@@ -14,4 +13,4 @@ pub use laws::{records_are_lawful, settling_again_changes_nothing};
 pub use limits::Settings;
 pub use records::Record;
 pub use rows::{NeighbourRow, Neighbours, TreeRow, Trees, is_symmetric};
-pub use tuning::{LawNumber, SettingsNumbers};
+pub use tuning::{LawNumber, SettingsNumbers, UnknownLaw};

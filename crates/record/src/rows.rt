@@ -1,15 +1,16 @@
 ghost use Rattle.std.specs.Prelude.{◌≡◌};
-ghost use Rattle.record.specs.Lawful.{lawful_neighbour, lawful_tree, named};
+ghost use Rattle.record.specs.Lawful.{lawful_neighbour, lawful_tree};
+ghost use Rattle.record.specs.Settling.{heard, lapses, lapsed};
 ghost use Rattle.record.specs.Symmetry.{symmetric, linked};
 
 use field::{Address, Cost, EnergyClass, Flag, Flags, TreeSequenceNumber, WaveNumber};
-use table::{Filter, Keyed, Table, find};
+use table::{Keyed, Table, find};
 
 // The longest hold after the last time.
 const LAST_UNTIL: u32 = 4_000_000_255;
 
 // A neighbour, as it was last heard. Times are in seconds.
-#[derive(Clone, Copy)]
+#[derive(Clone, Copy, PartialEq, Eq, Debug)]
 pub struct NeighbourRow {
     pub address: Address,
     pub sym_until: u32,
@@ -19,7 +20,7 @@ pub struct NeighbourRow {
 }
 
 // What is held of the tree of one root.
-#[derive(Clone, Copy)]
+#[derive(Clone, Copy, PartialEq, Eq, Debug)]
 pub struct TreeRow {
     pub root: Address,
     pub wave: WaveNumber,
@@ -68,6 +69,22 @@ impl NeighbourRow {
     {
         time <= self.sym_until
     }
+
+    pub(crate) fn is_heard(&self, time: u32) -> bool
+        ensures { result ≡ heard time self.now }
+    {
+        time <= self.heard_until
+    }
+
+    // Whether a node of this address may hold the row.
+    pub(crate) fn is_lawful(&self, own: Address) -> bool
+        ensures { result ≡ lawful_neighbour own.0 self.now }
+    {
+        self.address.0 > 0
+            && self.address != own
+            && self.sym_until <= LAST_UNTIL
+            && self.heard_until <= LAST_UNTIL
+    }
 }
 
 impl TreeRow {
@@ -83,47 +100,38 @@ impl TreeRow {
         tree: TreeSequenceNumber(0),
         owed: false,
     };
-}
 
-// The neighbour rows that a node of this address may hold.
-#[derive(Clone, Copy)]
-pub struct LawfulNear(pub Address);
-
-impl Filter<NeighbourRow> for LawfulNear {
-    ghost kept = { λ own row. lawful_neighbour own.0.0 row };
-
-    fn keeps(&self, row: &NeighbourRow) -> bool {
-        row.address.0 > 0
-            && row.address.0 != self.0.0
-            && row.sym_until <= LAST_UNTIL
-            && row.heard_until <= LAST_UNTIL
+    // Whether a node may hold the row.
+    pub(crate) fn is_lawful(&self) -> bool
+        ensures { result ≡ lawful_tree self.now }
+    {
+        self.root.0 > 0
+            && self.wave.0 > 0
+            && self.parent.is_none_or(|parent| parent.0 > 0)
+            && self.valid_until <= LAST_UNTIL
+            && self.ttl <= 32
+            && self.flags.suit(self.tree)
+            && (!self.owed || self.ttl > 0)
     }
-}
 
-// The tree rows that a node may hold.
-#[derive(Clone, Copy)]
-pub struct LawfulTree;
-
-impl Filter<TreeRow> for LawfulTree {
-    ghost kept = { λ _ row. lawful_tree row };
-
-    fn keeps(&self, row: &TreeRow) -> bool {
-        row.root.0 > 0
-            && row.wave.0 > 0
-            && is_named(row.parent)
-            && row.valid_until <= LAST_UNTIL
-            && row.ttl <= 32
-            && row.flags.suit(row.tree)
-            && (!row.owed || row.ttl > 0)
+    // Whether the row is of another root, and past or without a symmetric parent.
+    fn is_lapsed(&self, own: Address, near: &[NeighbourRow], time: u32) -> bool
+        ensures { result ≡ lapses own.0 near.now time self.now }
+    {
+        let is_held = self
+            .parent
+            .is_some_and(|parent| is_symmetric(near, time, parent));
+        self.root != own && (self.valid_until < time || !is_held)
     }
-}
 
-fn is_named(parent: Option<Address>) -> bool
-    ensures { result ≡ named parent }
-{
-    match parent {
-        Some(Address(number)) => number > 0,
-        None => true,
+    // Such a row loses its parent, and owes nothing.
+    pub(crate) fn lapse(&mut self, own: Address, near: &[NeighbourRow], time: u32)
+        ensures { self.new ≡ lapsed own.0 near.now time self.old }
+    {
+        if self.is_lapsed(own, near, time) {
+            self.parent = None;
+            self.owed = false;
+        }
     }
 }
 
@@ -131,8 +139,5 @@ fn is_named(parent: Option<Address>) -> bool
 pub fn is_symmetric(rows: &[NeighbourRow], time: u32, address: Address) -> bool
     ensures { result ≡ linked rows.now time address.0 }
 {
-    match find(rows, address.0) {
-        Some(row) => row.is_symmetric(time),
-        None => false,
-    }
+    find(rows, address.0).is_some_and(|row| row.is_symmetric(time))
 }

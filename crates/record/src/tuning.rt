@@ -1,36 +1,41 @@
-ghost use Rattle.std.specs.Prelude.{◌≡◌, MatchOption};
+ghost use Rattle.std.specs.Prelude.{◌≡◌, MatchResult};
 ghost use Rattle.record.specs.Tuning.{law_number, IsLaw};
 
 // The cost law that a node goes by.
-#[derive(Clone, Copy)]
+#[derive(Clone, Copy, PartialEq, Eq, Debug)]
 pub enum LawNumber {
-    Energy,
-    Hops,
+    Energy = 1,
+    Hops = 2,
 }
 
-impl LawNumber {
-    pub fn from_number(number: u16) -> Option<LawNumber>
-        ensures { MatchOption result (IsLaw number → ⊥) (λ l. law_number l ≡ number) }
-    {
+// A number that is no law's.
+#[derive(Clone, Copy, PartialEq, Eq, Debug)]
+pub struct UnknownLaw(pub u16);
+
+impl TryFrom<u16> for LawNumber {
+    type Error = UnknownLaw;
+
+    ghost try_from_gives = { λ number result. MatchResult result (λ law. law_number law ≡ number) (λ unknown. (IsLaw number → ⊥) × (unknown.0 ≡ number)) };
+
+    fn try_from(number: u16) -> Result<LawNumber, UnknownLaw> {
         match number {
-            1 => Some(LawNumber::Energy),
-            2 => Some(LawNumber::Hops),
-            _ => None,
+            1 => Ok(LawNumber::Energy),
+            2 => Ok(LawNumber::Hops),
+            _ => Err(UnknownLaw(number)),
         }
     }
+}
 
-    pub fn number(self) -> u8
-        ensures { result ≡ law_number self }
-    {
-        match self {
-            LawNumber::Energy => 1,
-            LawNumber::Hops => 2,
-        }
+impl From<LawNumber> for u8 {
+    ghost from_gives = { λ law number. number ≡ law_number law };
+
+    fn from(law: LawNumber) -> u8 {
+        law as u8
     }
 }
 
 // The numbers that a node is set to, before they are held to their limits.
-#[derive(Clone, Copy)]
+#[derive(Clone, Copy, PartialEq, Eq, Debug)]
 pub struct SettingsNumbers {
     pub law: u16,
     pub lambda: u16,

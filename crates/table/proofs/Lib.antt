@@ -1,3 +1,5 @@
 pub mod Apart
+pub mod Changed
 pub mod Every
+pub mod Kept
 pub mod Laws

@@ -1,3 +1,3 @@
-pub mod Filters
 pub mod Keys
+pub mod Pushing
 pub mod Rows

@@ -13,12 +13,7 @@ pub trait Keyed: Copy {
 pub fn find<K: Keyed>(rows: &[K], key: u16) -> Option<K>
     ensures { result ≡ found K.Keyed.keyed rows.now key }
 {
-    for row in rows {
-        if row.key() == key {
-            return Some(*row);
-        }
-    }
-    None
+    rows.iter().find(|row| row.key() == key).copied()
 }
 
 // Whether no two rows have one key.

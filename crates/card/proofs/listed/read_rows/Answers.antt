@@ -2,7 +2,7 @@ use Rattle.std.proofs.Common.{◌≡◌, ℕ, suc, ◌-◌, ◌≤◌, cond, Lis
 use Rattle.std.proofs.lemmas.List.{append_assoc, append-nil, take_rest}
 use Rattle.std.proofs.lemmas.Bool.{ltb-false}
 use Rattle.table.proofs.Every.{every_push}
-use Rattle.table.specs.Filters.{every}
+use Rattle.std.specs.List.{list_all}
 use Rattle.table.specs.Rows.{rows}
 use Rattle.card.specs.Octets.{joined}
 use Rattle.card.proofs.Joined.{joined_next, joined_push}
@@ -55,7 +55,7 @@ loop-left-preserved g c =
           ∙ append_assoc (joined w had) (w x) (drop width left)
           ∙ ap (λ l. joined w had ++ l) whole
           ∙ c.loop-left.invariant.0,
-      ap (λ l. every g.R.CardRow.plain l) now ∙ every_push g.R.CardRow.plain had x c.loop-left.invariant.1 got.1,
+      ap (λ l. list_all g.R.CardRow.plain l) now ∙ every_push g.R.CardRow.plain had x c.loop-left.invariant.1 got.1,
       λ xs e. (
           let next = joined_next w wide g.met.R.CardRow.sized xs (length had) left (c.loop-left.invariant.2 xs e).1 c.loop-left-test.true in
           (omega (arith, longer, next.1), ap (λ n. joined w (drop n xs)) longer ∙ next.3 ∙ ap (λ n. drop n left) (sym c.width-width.ensures) ∙ sym rest)),

@@ -1,5 +1,5 @@
 use Rattle.std.proofs.Common.{◌≡◌, ◌≤◌, true, List, ◌++◌, length, drop}
-use Rattle.table.specs.Filters.{every}
+use Rattle.std.specs.List.{list_all}
 use Rattle.table.specs.Rows.{rows}
 use Rattle.card.specs.Octets.{joined}
 use Rattle.card.proofs.listed.read_rows.Given as goal
@@ -8,7 +8,7 @@ use Rattle.card.proofs.listed.read_rows.Given as goal
 abbrev pub invariant-loop-left : goal.invariant-loop-left
 invariant-loop-left g l =
     (joined g.R.CardRow.written (rows l.all) ++ l.left ≡ l.octets)
-    × (every g.R.CardRow.plain (rows l.all) ≡ true)
+    × (list_all g.R.CardRow.plain (rows l.all) ≡ true)
     × ((xs : List g.row.R.Denot) → joined g.R.CardRow.written xs ≡ l.octets → (length (rows l.all) ≤ length xs) × (joined g.R.CardRow.written (drop (length (rows l.all)) xs) ≡ l.left))
 
 abbrev pub decreases-loop-left : goal.decreases-loop-left

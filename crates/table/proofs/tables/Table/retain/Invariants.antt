@@ -1,9 +1,14 @@
-use Rattle.std.proofs.Common.{◌≡◌}
-use Rattle.std.proofs.lemmas.List.Filters.{FiltersInPlace}
+use Rattle.std.proofs.Common.{◌≤◌, List, ◌++◌, drop, length}
+use denote.Param.Always.{always_mut}
+use Rattle.std.specs.Fn.{CalledAt}
+use Rattle.std.specs.List.Retain.{IsFiltered}
 use Rattle.table.specs.Rows.{rows}
 use Rattle.table.proofs.tables.Table.retain.Given as goal
 
-abbrev pub invariant-loop-i : goal.invariant-loop-i
-invariant-loop-i g l =
-    (l.self.count ≡ l.initial.self.count)
-    × FiltersInPlace (g.F.Filter.kept l.filter) (rows l.initial.self) (rows l.self) l.next l.i
+-- what is kept of the rows that are left goes behind what is kept so far
+abbrev pub invariant-loop-row : goal.invariant-loop-row
+invariant-loop-row g l = record {
+  callable : always_mut g.F.FnMut l.keep;
+  few : length (rows l.self) ≤ l.row-index;
+  filtered : (ys : List g.row.T.Denot) → IsFiltered (CalledAt g.F.FnMut) l.keep (drop l.row-index l.rows) ys → IsFiltered (CalledAt g.F.FnMut) l.initial.keep l.rows (rows l.self ++ ys);
+}
