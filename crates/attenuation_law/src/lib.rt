@@ -7,9 +7,8 @@ ghost use Rattle.attenuation_law.specs.Rising.{sendings_rise, sendings_order};
 ghost use Rattle.law.proofs.Rules.{as_cost_rise, as_cost_order};
 ghost use Rattle.std.proofs.Common.{rules};
 
-use field::{Address, Cost, EnergyClass};
-use law::{CostLaw, as_cost, power_of};
-use record::{Neighbours, Settings};
+use field::{Address, Cost};
+use law::{CostLaw, Listener, as_cost, power_of};
 
 // Of 256 sendings over a link, this many are lost.
 #[derive(Clone, Copy)]
@@ -24,7 +23,7 @@ impl CostLaw for AttenuationLaw {
 
     const NUMBER: u8 = 3;
 
-    ghost numbered = { 3 };
+    ghost NUMBER = { 3 };
 
     ghost measured = { λ _ _ near _ sender. record { 0 = attenuation near sender } };
 
@@ -38,22 +37,11 @@ impl CostLaw for AttenuationLaw {
 
     ghost order = { λ a b o m few le e. as_cost_order (sendings a m.0) (sendings b m.0) o (sendings_order a b m.0 few le) e };
 
-    fn law_number(&self) -> u8 {
-        Self::NUMBER
-    }
-
-    fn measure(
-        &self,
-        _settings: &Settings,
-        _class: EnergyClass,
-        neighbours: &Neighbours,
-        _time: u32,
-        sender: Address,
-    ) -> Attenuation {
-        Attenuation(255 - power_of(neighbours, sender))
+    fn measure(&self, listener: &Listener<'_>, sender: Address) -> Attenuation {
+        Attenuation(255 - power_of(listener.neighbours, sender))
     }
 
     fn extend(&self, cost: Cost, lost: Attenuation) -> Option<Cost> {
-        as_cost((cost as u64 + 1) * 256 / (256 - lost.0 as u64))
+        as_cost((u64::from(cost) + 1) * 256 / (256 - u64::from(lost.0)))
     }
 }

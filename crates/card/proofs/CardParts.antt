@@ -1,67 +1,58 @@
--- Head and rows of a card, at their places.
-use Rattle.std.proofs.Common.{◌≡◌, ℕ, ◌+◌, ◌-◌, ◌*◌, ◌≤◌, true, List, ◌∷◌, ◌++◌, length, take, drop, Ok, Err, Result, sym, refl, ap, ◌∙◌, subst, ap₂, arith, length-drop, take-append-drop, length-take}
-use Rattle.std.proofs.lemmas.List.{take_at, drop_at, take_rest}
+-- Head and rows of a card.
+use Rattle.std.proofs.Common.{◌≡◌, ℕ, true, List, [], ◌∷◌, ◌++◌, ◌<◌, length, take, drop, Ok, Err, Result, sym, refl, ap, ◌∙◌, subst, ap₂, arith, take-append-drop}
+use Rattle.std.specs.Prelude.{MatchOption, ◌≢◌}
+use Rattle.std.specs.Result.{result_ok}
+use Rattle.std.proofs.lemmas.List.{drop_at, drop_all, append-nil, get_or_append_left}
 use Rattle.field.specs.Codes.{class_code}
 use Rattle.field.specs.Wide.{at, wide, wide_at, long, long_at}
 use Rattle.field.proofs.Wides.{Octets, by_places, wide_places, long_places}
-use Rattle.std.specs.List.{list_all}
+use Rattle.table.specs.Filters.{every}
 use Rattle.record.specs.Lawful.{Lawful}
 use Rattle.record.specs.Records.{state, MakesRecord}
 use Rattle.record.specs.States.{State}
 use Rattle.record.specs.declared.faults.RecordFault.{RecordFault}
 use Rattle.record.specs.declared.faults.RecordFault.TheVariants.{Unlawful}
 use Rattle.record.specs.declared.records.Record.{Record}
-use Rattle.card.specs.Cards.{ReadsCard}
+use Rattle.record.specs.declared.rows.NeighbourRow.{NeighbourRow}
+use Rattle.record.specs.declared.rows.TreeRow.{TreeRow}
 use Rattle.card.specs.Octets.{card, joined, neighbour_octets, tree_octets}
-use Rattle.card.proofs.OneCard.{card_length, neighbours_length, trees_length, one_card, plain, record_plain}
+use Rattle.card.proofs.Joined.{joined_split}
+use Rattle.card.proofs.OneCard.{one_card, plain, record_plain}
 
--- a part from the start of what follows the first i, and the part behind it, as the program cuts them
-pub start_part : (xs : List ℕ) (i k : ℕ) → take (k - 0) (take (length xs - i) (drop i xs)) ≡ take k (drop i xs)
-start_part xs i k = ap (λ n. take n (take (length xs - i) (drop i xs))) (omega arith) ∙ ap (take k) (take_rest xs i)
+-- octets are the part that was cut off at the front, and what was left
+pub cut : (n : ℕ) (xs head rest : List ℕ) → head ≡ take n xs → rest ≡ drop n xs → xs ≡ head ++ rest
+cut n xs head rest a b = sym (take-append-drop n xs) ∙ ap₂ (λ h l. h ++ l) (sym a) (sym b)
 
-pub end_part : (xs : List ℕ) (i k : ℕ) → take (length (take (length xs - i) (drop i xs)) - k) (drop k (take (length xs - i) (drop i xs))) ≡ drop k (drop i xs)
-end_part xs i k = take_rest (take (length xs - i) (drop i xs)) k ∙ ap (drop k) (take_rest xs i)
+-- ---- what a card has behind its head, and behind as many rows as the head says
 
--- ---- what a card has at its places
+module _ (s : State) (head rest : List ℕ) (ten : length head ≡ 10) (e : card s ≡ head ++ rest) where
+  at_head : (i : ℕ) → i < 10 → at (card s) i ≡ at head i
+  at_head i lt = ap (λ l. at l i) e ∙ get_or_append_left head rest 0 i (omega arith)
 
-module _ (s : State) (xs : List ℕ) (e : card s ≡ xs) where
-  counts : length s.neighbours ≡ at xs 8
-  counts = ap (λ l. at l 8) e
+  pub trees_many : length s.trees ≡ at head 9
+  trees_many = at_head 9 (omega arith)
 
-  pub rows_size : length (take (length xs - 10) (drop 10 xs)) ≡ at xs 8 * 12 + at xs 9 * 17
-  rows_size =
-      ap length (take_rest xs 10)
-      ∙ omega (arith, length-drop 10 xs, ap length e, card_length s, counts, ap (λ l. at l 9) e)
+  pub trees_left : (near : List NeighbourRow) (left : List ℕ) → joined neighbour_octets near ++ left ≡ rest → length near ≡ at head 8 → joined tree_octets s.trees ≡ left
+  trees_left near left split many =
+      (joined_split neighbour_octets 12 (λ x. refl) s.neighbours near (joined tree_octets s.trees) left (at_head 8 (omega arith) ∙ sym many) (ap (drop 10) e ∙ drop_at head rest 10 ten ∙ sym split)).1
 
-  pub neighbours_part : joined neighbour_octets s.neighbours ≡ take (at xs 8 * 12) (drop 10 xs)
-  neighbours_part =
-      sym (take_at (joined neighbour_octets s.neighbours) (joined tree_octets s.trees) (at xs 8 * 12) (neighbours_length s.neighbours ∙ ap (λ n. n * 12) counts))
-      ∙ ap (λ l. take (at xs 8 * 12) (drop 10 l)) e
-
-  pub trees_part : joined tree_octets s.trees ≡ drop (at xs 8 * 12) (drop 10 xs)
-  trees_part =
-      sym (drop_at (joined neighbour_octets s.neighbours) (joined tree_octets s.trees) (at xs 8 * 12) (neighbours_length s.neighbours ∙ ap (λ n. n * 12) counts))
-      ∙ ap (λ l. drop (at xs 8 * 12) (drop 10 l)) e
+  pub none_left : (near : List NeighbourRow) (left : List ℕ) → joined neighbour_octets near ++ left ≡ rest → length near ≡ at head 8 → (far : List TreeRow) (last : List ℕ) → joined tree_octets far ++ last ≡ left → length far ≡ at head 9 → [] ≡ last
+  none_left near left split many far last split_2 many_2 =
+      (joined_split tree_octets 17 (λ x. refl) s.trees far [] last (trees_many ∙ sym many_2) (append-nil (joined tree_octets s.trees) ∙ trees_left near left split many ∙ sym split_2)).1
 
 -- ---- a record whose fields stand at their places has that card
 
-module _ (xs : List ℕ) (octets : Octets xs) (ten : 10 ≤ length xs) (size : length (take (length xs - 10) (drop 10 xs)) ≡ at xs 8 * 12 + at xs 9 * 17) (s : State) where
-  rows_length : length (drop 10 xs) ≡ at xs 8 * 12 + at xs 9 * 17
-  rows_length = sym (ap length (take_rest xs 10)) ∙ size
-
-  pub card_is : s.address ≡ wide_at xs 0 → class_code s.class ≡ at xs 2 → s.number ≡ at xs 3 → s.latest ≡ long_at xs 4 → joined neighbour_octets s.neighbours ≡ take (at xs 8 * 12) (drop 10 xs) → joined tree_octets s.trees ≡ drop (at xs 8 * 12) (drop 10 xs) → card s ≡ xs
-  card_is a c n l near far =
-      let few : length s.neighbours ≡ at xs 8 = omega (arith, neighbours_length s.neighbours, ap length near, length-take (at xs 8 * 12) (drop 10 xs), rows_length) in
-      let many : length s.trees ≡ at xs 9 = omega (arith, trees_length s.trees, ap length far, length-drop (at xs 8 * 12) (drop 10 xs), rows_length) in
-      let rest : joined neighbour_octets s.neighbours ++ joined tree_octets s.trees ≡ drop 10 xs = ap₂ (λ x y. x ++ y) near far ∙ take-append-drop (at xs 8 * 12) (drop 10 xs) in
-      let fields : card s ≡ wide (wide_at xs 0) (at xs 2 ∷ at xs 3 ∷ long (long_at xs 4) (at xs 8 ∷ at xs 9 ∷ drop 10 xs)) = cc in
-      fields
-      ∙ wide_places xs octets 0 _ (ap (λ q. at xs 2 ∷ at xs 3 ∷ q) (long_places xs octets 4 _ refl))
-      ∙ sym (by_places 10 0 xs ten)
+pub card_is : (head rest : List ℕ) → Octets head → length head ≡ 10 → (s : State) → s.address ≡ wide_at head 0 → class_code s.class ≡ at head 2 → s.number ≡ at head 3 → s.latest ≡ long_at head 4 → length s.neighbours ≡ at head 8 → length s.trees ≡ at head 9 → joined neighbour_octets s.neighbours ++ joined tree_octets s.trees ≡ rest → card s ≡ head ++ rest
+card_is head rest octets ten s a c n l near far rows =
+    let fields : card s ≡ wide (wide_at head 0) (at head 2 ∷ at head 3 ∷ long (long_at head 4) (at head 8 ∷ at head 9 ∷ rest)) = cc in
+    let last : rest ≡ drop 10 head ++ rest = ap (λ l. l ++ rest) (sym (drop_all 10 head (omega arith))) in
+    fields
+    ∙ wide_places head octets 0 _ (ap (λ q. at head 2 ∷ at head 3 ∷ q) (long_places head octets 4 _ (ap (λ q. at head 8 ∷ at head 9 ∷ q) last)))
+    ∙ sym (ap (λ l. l ++ rest) (by_places 10 0 head (omega arith)))
 
 -- ---- so making the record decides reading
 
-pub reads_made : (xs : List ℕ) (s : State) → card s ≡ xs → list_all plain s.trees ≡ true → (a : Result Record RecordFault) → MakesRecord s a → ReadsCard xs a
+pub reads_made : (xs : List ℕ) (s : State) → card s ≡ xs → every plain s.trees ≡ true → (a : Result Record RecordFault) → MakesRecord s a → MatchOption (result_ok a) ((r : Record) → card (state r) ≢ xs) (λ r. card (state r) ≡ xs)
 reads_made xs s e p (Ok r) made = ap card made.0 ∙ e
 reads_made xs s e p (Err Unlawful) made = λ r q. made (subst Lawful (one_card (state r) s (record_plain r) p (q ∙ sym e)) (lawful r)) where
   lawful : (r : Record) → Lawful (state r)

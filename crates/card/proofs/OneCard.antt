@@ -1,6 +1,5 @@
 -- A card has one record, and is short.
-use Rattle.std.proofs.Common.{◌≡◌, ◌+◌, ◌*◌, Bool, true, ◌&&◌, ltb, leb, List, [], ◌∷◌, ◌++◌, length, take, drop, Ok, Err, sym, refl, ap, ◌∙◌, arith, length-append}
-use Rattle.std.proofs.lemmas.List.{take_at, drop_at}
+use Rattle.std.proofs.Common.{◌≡◌, ◌+◌, ◌*◌, Bool, true, ◌&&◌, ltb, leb, List, [], ◌∷◌, ◌++◌, length, drop, Ok, Err, refl, ap, ◌∙◌, arith, length-append}
 use Rattle.std.proofs.lemmas.Bool.{and_parts, and_from}
 use Rattle.field.proofs.Fields.{one_class}
 use Rattle.field.specs.Wide.{at, wide_at, long_at}
@@ -17,7 +16,7 @@ use Rattle.record.specs.declared.rows.TreeRow.{TreeRow}
 use Rattle.frame.specs.declared.faults.WriteFault.TheVariants.{OutputTooShort}
 use Rattle.card.specs.Cards.{WrittenIsRead, ReadIsWritten, CardsAreShort}
 use Rattle.card.specs.Octets.{card, joined, neighbour_octets, tree_octets}
-use Rattle.card.proofs.Joined.{joined_length, joined_one}
+use Rattle.card.proofs.Joined.{joined_length, joined_one, joined_split}
 use Rattle.card.proofs.RowOctets.{one_neighbour, one_tree}
 
 -- parents are written as they are
@@ -55,16 +54,8 @@ every_row (row ∷ rows) = every_row rows
 -- the rows of a card, where there are as many neighbours
 one_rows : (s t : State) → length s.neighbours ≡ length t.neighbours → list_all plain s.trees ≡ true → list_all plain t.trees ≡ true → joined neighbour_octets s.neighbours ++ joined tree_octets s.trees ≡ joined neighbour_octets t.neighbours ++ joined tree_octets t.trees → (s.neighbours ≡ t.neighbours) × (s.trees ≡ t.trees)
 one_rows s t n ps pt e =
-    let ns = joined neighbour_octets s.neighbours in
-    let nt = joined neighbour_octets t.neighbours in
-    let ts = joined tree_octets s.trees in
-    let tt' = joined tree_octets t.trees in
-    let k = length s.neighbours * 12 in
-    let ks = neighbours_length s.neighbours in
-    let kt : length nt ≡ k = neighbours_length t.neighbours ∙ ap (λ m. m * 12) (sym n) in
-    let near : ns ≡ nt = sym (take_at ns ts k ks) ∙ ap (take k) e ∙ take_at nt tt' k kt in
-    let far : ts ≡ tt' = sym (drop_at ns ts k ks) ∙ ap (drop k) e ∙ drop_at nt tt' k kt in
-    (joined_one neighbour_octets 12 (λ x. refl) (λ _. true) (λ x y p q. one_neighbour x y) (omega arith) s.neighbours t.neighbours (every_row s.neighbours) (every_row t.neighbours) near, joined_one tree_octets 17 (λ x. refl) plain one_tree (omega arith) s.trees t.trees ps pt far)
+    let parts = joined_split neighbour_octets 12 (λ x. refl) s.neighbours t.neighbours _ _ n e in
+    (joined_one neighbour_octets 12 (λ x. refl) (λ _. true) (λ x y p q. one_neighbour x y) (omega arith) s.neighbours t.neighbours (every_row s.neighbours) (every_row t.neighbours) parts.0, joined_one tree_octets 17 (λ x. refl) plain one_tree (omega arith) s.trees t.trees ps pt parts.1)
 
 pub one_card : (s t : State) → list_all plain s.trees ≡ true → list_all plain t.trees ≡ true → card s ≡ card t → s ≡ t
 one_card s t ps pt e =

@@ -1,7 +1,7 @@
 -- Octets written one after the other are written at once.
-use Rattle.std.proofs.Common.{◌≡◌, ℕ, ◌+◌, ◌≤◌, List, [], ◌++◌, length, take, drop, sym, refl, ap, ◌∙◌, ap₂, add-zero, zero-add, arith, length-append, take-append-drop}
+use Rattle.std.proofs.Common.{◌≡◌, ℕ, ◌+◌, ◌≤◌, List, [], ◌++◌, length, take, drop, sym, refl, ap, ◌∙◌, ap₂, add-zero, arith, length-append, take-append-drop, append-nil}
 use borrow.Rule.Slice.PartMut.{put_mid}
-use Rattle.std.proofs.lemmas.List.{append_assoc, drop-drop}
+use Rattle.std.proofs.lemmas.List.{append_assoc, drop-drop, drop_all}
 use Rattle.std.proofs.lemmas.Slice.{take-put_mid, drop-put_mid}
 use Rattle.card.specs.Placing.{placed}
 
@@ -22,9 +22,17 @@ placed_more out at xs ys fits =
     ∙ append_assoc (take at out) xs (ys ++ drop (at + length (xs ++ ys)) out)
     ∙ ap (λ l. take at out ++ l) (sym (append_assoc xs ys (drop (at + length (xs ++ ys)) out)))
 
--- three parts, the first at the front
-pub three_parts : (out a b c first second third : List ℕ) (n m : ℕ) → length a + length b ≤ length out → n ≡ 0 + length a → m ≡ n + length b → first ≡ placed out 0 a → second ≡ placed first n b → third ≡ placed second m c → third ≡ ((a ++ b) ++ c) ++ drop (length ((a ++ b) ++ c)) out
-three_parts out a b c first second third n m fits en em e1 e2 e3 =
-    let two : second ≡ placed out 0 (a ++ b) = e2 ∙ ap₂ (λ o k. placed o k b) e1 en ∙ placed_more out 0 a b (omega arith) in
-    let em' : m ≡ 0 + length (a ++ b) = omega (arith, length-append a b) in
-    e3 ∙ ap₂ (λ o k. placed o k c) two em' ∙ placed_more out 0 (a ++ b) c (omega (arith, length-append a b)) ∙ ap (λ k. ((a ++ b) ++ c) ++ drop k out) (zero-add (length ((a ++ b) ++ c)))
+-- octets fill a part of as many
+pub placed_whole : (part octets : List ℕ) → length part ≡ length octets → placed part 0 octets ≡ octets
+placed_whole part octets e = ap (λ l. octets ++ l) (drop_all (0 + length octets) part (omega arith)) ∙ append-nil octets
+
+-- three parts, the last with what is behind it, are one
+pub three_parts : (out head near far : List ℕ) → head ++ (near ++ placed (drop (length near) (drop (length head) out)) 0 far) ≡ (head ++ (near ++ far)) ++ drop (length (head ++ (near ++ far))) out
+three_parts out head near far =
+    let parts = length-append head (near ++ far) in
+    let back = length-append near far in
+    let behind : drop (0 + length far) (drop (length near) (drop (length head) out)) ≡ drop (length (head ++ (near ++ far))) out =
+    drop-drop (0 + length far) (length near) (drop (length head) out) ∙ drop-drop (length near + (0 + length far)) (length head) out ∙ ap (λ n. drop n out) (omega arith) in
+    let rest = drop (length (head ++ (near ++ far))) out in
+    let same : head ++ (near ++ (far ++ rest)) ≡ (head ++ (near ++ far)) ++ rest = simp append_assoc in
+    ap (λ l. head ++ (near ++ (far ++ l))) behind ∙ same

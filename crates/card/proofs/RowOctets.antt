@@ -15,10 +15,10 @@ use Rattle.card.specs.Octets.{bit, neighbour_octets, tree_octets}
 -- ---- a row whose fields stand at their places is written as those octets
 
 module _ (xs : List ℕ) (octets : Octets xs) where
-  pub tree_is : length xs ≡ 17 → (row : TreeRow) → row.root.0 ≡ wide_at xs 0 → row.wave.0 ≡ wide_at xs 2 → row.cost ≡ wide_at xs 4 → number_or_0 row.parent ≡ wide_at xs 6 → row.valid_until ≡ long_at xs 8 → row.ttl ≡ at xs 12 → row.flags.0 ≡ at xs 13 → row.tree.0 ≡ wide_at xs 14 → bit row.owed ≡ at xs 16 → tree_octets row ≡ xs
-  tree_is n row r w c p v l f t o =
+  pub tree_is : length xs ≡ 17 → {root wave cost until tree : ℕ} (parent : Option Address) (owed : Bool) → root ≡ wide_at xs 0 → wave ≡ wide_at xs 2 → cost ≡ wide_at xs 4 → number_or_0 parent ≡ wide_at xs 6 → until ≡ long_at xs 8 → tree ≡ wide_at xs 14 → bit owed ≡ at xs 16 → tree_octets (record { root = record { 0 = root }; wave = record { 0 = wave }; cost = cost; parent = parent; valid_until = until; ttl = at xs 12; flags = record { 0 = at xs 13 }; tree = record { 0 = tree }; owed = owed }) ≡ xs
+  tree_is n {root = root} {wave = wave} {cost = cost} {until = until} {tree = tree} parent owed r w c p v t o =
       let end : [] ≡ drop 17 xs = sym (drop_all 17 xs (omega arith)) in
-      let fields : tree_octets row ≡ wide (wide_at xs 0) (wide (wide_at xs 2) (wide (wide_at xs 4) (wide (wide_at xs 6) (long (long_at xs 8) (at xs 12 ∷ at xs 13 ∷ wide (wide_at xs 14) (at xs 16 ∷ [])))))) = cc in
+      let fields : tree_octets (record { root = record { 0 = root }; wave = record { 0 = wave }; cost = cost; parent = parent; valid_until = until; ttl = at xs 12; flags = record { 0 = at xs 13 }; tree = record { 0 = tree }; owed = owed }) ≡ wide (wide_at xs 0) (wide (wide_at xs 2) (wide (wide_at xs 4) (wide (wide_at xs 6) (long (long_at xs 8) (at xs 12 ∷ at xs 13 ∷ wide (wide_at xs 14) (at xs 16 ∷ [])))))) = cc in
       fields
       ∙ wide_places xs octets 0 _ (wide_places xs octets 2 _ (wide_places xs octets 4 _ (wide_places xs octets 6 _ (long_places xs octets 8 _
       (ap (λ q. at xs 12 ∷ at xs 13 ∷ q) (wide_places xs octets 14 _ (ap (λ q. at xs 16 ∷ q) end)))))))

@@ -5,7 +5,6 @@ mod cards;
 mod laws;
 mod listed;
 mod neighbour_rows;
-mod outputs;
 mod tree_rows;
 
 pub use cards::{read, write};

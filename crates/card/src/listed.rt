@@ -1,66 +1,58 @@
-ghost use Rattle.std.specs.Prelude.{◌≡◌, ℕ, ◌+◌, ◌≤◌, Bool, true, List, length, MatchOption, ◌≢◌};
+ghost use Rattle.std.specs.Prelude.{◌≡◌, ℕ, ◌<◌, ◌≤◌, ◌^◌, Bool, true, List, ◌++◌, length, MatchOption, ◌≢◌};
 ghost use Rattle.card.specs.Octets.{joined};
 ghost use Rattle.card.specs.Placing.{placed};
-ghost use Rattle.std.specs.List.{list_all};
+ghost use Rattle.table.specs.Filters.{every};
 ghost use Rattle.table.specs.Rows.{rows};
 
 use table::Table;
 
-// A row that takes the same number of octets as every other.
-pub trait CardRow: Copy {
+// A row that takes W octets.
+pub trait CardRow<const W: usize>: Copy {
     ghost written: { Self → List ℕ };
-
-    ghost wide: { ℕ };
 
     // no parent is written as 0, so an address of 0 for a parent is not plain
     ghost plain: { Self → Bool };
 
-    fn width() -> usize
-        ensures { result ≡ wide };
+    fn octets(&self) -> [u8; W]
+        ensures { result ≡ written self.now };
 
-    fn read(octets: &[u8]) -> Option<Self>
+    fn read(octets: &[u8; W]) -> Option<Self>
         ensures { MatchOption result ((x : Self) → written x ≢ octets.now) (λ x. (written x ≡ octets.now) × (plain x ≡ true)) };
 
-    // Writes the row from a place on, and answers the place behind it.
-    fn put(&self, out: &mut [u8], at: usize) -> usize
-        requires { at + wide ≤ length out.old }
-        ensures next { result ≡ at + wide }
-        ensures after { out.new ≡ placed out.old at (written self.now) };
+    ghost sized: { (x : Self) → length (written x) ≡ W };
 
-    ghost some: { 1 ≤ wide };
-
-    ghost sized: { (x : Self) → length (written x) ≡ wide };
+    // no array is longer
+    ghost fits: { W < 2 ^ 63 };
 }
 
-// The rows that the octets are, at most N.
-pub fn read_rows<R: CardRow, const N: usize>(octets: &[u8], filler: R) -> Option<Table<R, N>>
-    ensures { MatchOption result ((xs : List R) → length xs ≤ N → joined R.CardRow.written xs ≢ octets.now) (λ t. (joined R.CardRow.written (rows t) ≡ octets.now) × (list_all R.CardRow.plain (rows t) ≡ true)) }
+// So many rows from the front of the octets, at most N, and what is left.
+pub fn read_rows<R: CardRow<W>, const W: usize, const N: usize>(
+    count: u8,
+    octets: &[u8],
+    filler: R,
+) -> Option<(Table<R, N>, &[u8])>
+    ensures { MatchOption result ((xs : List R) (rest : List ℕ) → length xs ≡ count → length xs ≤ N → joined R.CardRow.written xs ++ rest ≢ octets.now) (λ p. (joined R.CardRow.written (rows p.0) ++ p.1.now ≡ octets.now) × (length (rows p.0) ≡ count) × (every R.CardRow.plain (rows p.0) ≡ true)) }
 {
-    let width = R::width();
     let mut all = Table::new(filler);
     let mut left = octets;
-    while left.len() > 0 {
-        if left.len() < width {
+    for _ in 0..count {
+        let (row, rest) = left.split_first_chunk::<W>()?;
+        if !all.push(R::read(row)?) {
             return None;
         }
-        let row = R::read(&left[0..width])?;
-        if !all.push(row) {
-            return None;
-        }
-        left = &left[width..];
+        left = rest;
     }
-    Some(all)
+    Some((all, left))
 }
 
-// Writes the rows from a place on, and answers the place behind them.
-pub fn put_rows<R: CardRow>(all: &[R], out: &mut [u8], at: usize) -> usize
-    requires { at + length (joined R.CardRow.written all.now) ≤ length out.old }
-    ensures next { result ≡ at + length (joined R.CardRow.written all.now) }
-    ensures after { out.new ≡ placed out.old at (joined R.CardRow.written all.now) }
+// Fills the front of the output with the rows; the rest remains. By places, since no proof knows what is left by a write
+// through `chunks_exact_mut`, or through a `&mut` that a loop moves on.
+pub fn put_rows<R: CardRow<W>, const W: usize>(all: &[R], out: &mut [u8])
+    requires { length (joined R.CardRow.written all.now) ≤ length out.old }
+    ensures { out.new ≡ placed out.old 0 (joined R.CardRow.written all.now) }
 {
-    let mut next = at;
-    for row in all {
-        next = row.put(out, next);
+    for (i, row) in all.iter().enumerate() {
+        let at = i * W;
+        out[at..at + W].copy_from_slice(&row.octets());
     }
-    next
 }

@@ -4,8 +4,8 @@ ghost use Rattle.record.specs.declared.limits.Settings.{Settings};
 ghost use Rattle.record.specs.declared.rows.NeighbourRow.{NeighbourRow};
 ghost use Rattle.table.specs.Rows.{rows};
 
-use field::{Address, Cost, EnergyClass};
-use record::{Neighbours, Settings};
+use crate::listeners::Listener;
+use field::{Address, Cost};
 
 // What a link costs. It is measured at the node that hears over it, and a cost is extended by the measure.
 pub trait CostLaw {
@@ -13,7 +13,7 @@ pub trait CostLaw {
 
     const NUMBER: u8;
 
-    ghost numbered: { ℕ };
+    ghost NUMBER: { ℕ };
 
     // by the settings, the node's class, its neighbour rows and its latest time, for the sender's address
     ghost measured: { Settings → EnergyClass → List NeighbourRow → ℕ → ℕ → Self.Measure };
@@ -24,21 +24,17 @@ pub trait CostLaw {
     // a cost by a measure, to a cost or to none
     ghost extended: { ℕ → Self.Measure → Option ℕ };
 
-    fn law_number(&self) -> u8
-        ensures { result ≡ numbered };
-
-    fn measure(
-        &self,
-        settings: &Settings,
-        class: EnergyClass,
-        neighbours: &Neighbours,
-        time: u32,
-        sender: Address,
-    ) -> Self::Measure
-        ensures { result ≡ measured settings.now class (rows neighbours.now) time sender.0 };
+    fn measure(&self, listener: &Listener<'_>, sender: Address) -> Self::Measure
+        ensures { result ≡ measured listener.now.settings.now listener.now.class (rows listener.now.neighbours.now) listener.now.time sender.0 };
 
     fn extend(&self, cost: Cost, measure: Self::Measure) -> Option<Cost>
         ensures { result ≡ extended cost measure };
+
+    final fn law_number(&self) -> u8
+        ensures { result ≡ NUMBER }
+    {
+        Self::NUMBER
+    }
 
     // what is measured can occur
     ghost measures: { (s : Settings) (class : EnergyClass) (near : List NeighbourRow) (t sender : ℕ) → occurs (measured s class near t sender) };
@@ -50,19 +46,16 @@ pub trait CostLaw {
     ghost order: { (a b o : ℕ) (m : Self.Measure) → occurs m → a ≤ b → extended b m ≡ Some o → (p : ℕ) × (extended a m ≡ Some p) × (p ≤ o) };
 }
 
-// What the sender's cost comes to at this node: the cost extended by the measure for the sender.
+// What the sender's cost comes to at the node that hears it: the cost extended by the measure for the sender.
 pub fn offer<L: CostLaw>(
     law: &L,
-    settings: &Settings,
-    class: EnergyClass,
-    neighbours: &Neighbours,
-    time: u32,
+    listener: &Listener<'_>,
     sender: Address,
     cost: Cost,
 ) -> Option<Cost>
-    ensures value { result ≡ L.CostLaw.extended cost (L.CostLaw.measured settings.now class (rows neighbours.now) time sender.0) }
+    ensures value { result ≡ L.CostLaw.extended cost (L.CostLaw.measured listener.now.settings.now listener.now.class (rows listener.now.neighbours.now) listener.now.time sender.0) }
     ensures dearer { IfSome result (λ o. cost < o) }
 {
-    let measure = law.measure(settings, class, neighbours, time, sender);
+    let measure = law.measure(listener, sender);
     law.extend(cost, measure)
 }

@@ -7,9 +7,5 @@ use field::Cost;
 pub fn as_cost(number: u64) -> Option<Cost>
     ensures { result ≡ as_cost number }
 {
-    if number <= Cost::MAX as u64 {
-        Some(number as Cost)
-    } else {
-        None
-    }
+    Cost::try_from(number).ok()
 }

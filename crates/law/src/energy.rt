@@ -8,8 +8,8 @@ ghost use Rattle.std.proofs.lemmas.Bool.Decides.{nat_tests};
 
 use crate::cost_law::CostLaw;
 use crate::costs::as_cost;
+use crate::listeners::Listener;
 use field::{Address, Cost, EnergyClass};
-use record::{Neighbours, Settings};
 
 // A link costs what the node that hears over it and its symmetric neighbours weigh.
 #[derive(Clone, Copy)]
@@ -20,7 +20,7 @@ impl CostLaw for EnergyLaw {
 
     const NUMBER: u8 = 1;
 
-    ghost numbered = { law_number Energy };
+    ghost NUMBER = { law_number Energy };
 
     ghost measured = { λ s class near t _. energy_measure s.lambda s.beta class near t };
 
@@ -34,24 +34,14 @@ impl CostLaw for EnergyLaw {
 
     ghost order = { λ a b o m some le e. (a + m, Prim.grind (arith, nat_tests), Prim.grind (arith, nat_tests)) };
 
-    fn law_number(&self) -> u8 {
-        Self::NUMBER
-    }
-
-    fn measure(
-        &self,
-        settings: &Settings,
-        class: EnergyClass,
-        neighbours: &Neighbours,
-        time: u32,
-        _sender: Address,
-    ) -> u16 {
-        settings.lambda as u16 * weight_of(class)
-            + settings.beta as u16 * weight_around(neighbours, time)
+    #[tactic(auto, using(crate::proofs::Weights::around_few))]
+    fn measure(&self, listener: &Listener<'_>, _sender: Address) -> u16 {
+        u16::from(listener.settings.lambda) * weight_of(listener.class)
+            + u16::from(listener.settings.beta) * weight_around(listener)
     }
 
     fn extend(&self, cost: Cost, measure: u16) -> Option<Cost> {
-        as_cost(cost as u64 + measure as u64)
+        as_cost(u64::from(cost) + u64::from(measure))
     }
 }
 
@@ -67,15 +57,14 @@ pub fn weight_of(class: EnergyClass) -> u16
 }
 
 // What the symmetric neighbours weigh together.
-fn weight_around(neighbours: &Neighbours, time: u32) -> u16
-    ensures value { result ≡ weight_around (rows neighbours.now) time }
-    ensures few { result ≤ 16 * 20 }
+fn weight_around(listener: &Listener<'_>) -> u16
+    ensures { result ≡ weight_around (rows listener.now.neighbours.now) listener.now.time }
 {
-    let mut around = 0;
-    for row in neighbours.as_slice() {
-        if row.is_symmetric(time) {
-            around += weight_of(row.class);
-        }
-    }
-    around
+    listener
+        .neighbours
+        .as_slice()
+        .iter()
+        .filter(|row| row.is_symmetric(listener.time))
+        .map(|row| weight_of(row.class))
+        .sum()
 }

@@ -7,11 +7,10 @@ ghost use Rattle.std.proofs.Common.{arith, rules};
 ghost use Rattle.std.proofs.lemmas.Bool.Decides.{nat_tests};
 
 use crate::cost_law::CostLaw;
-use field::{Address, Cost, EnergyClass};
-use record::{Neighbours, Settings};
+use crate::listeners::Listener;
+use field::{Address, Cost, two_octets};
+use record::Neighbours;
 use table::find;
-
-const MOST_HOPS: Cost = 255;
 
 // Fewer hops cost less; of as many hops, the way whose weakest link is stronger does.
 #[derive(Clone, Copy)]
@@ -22,7 +21,7 @@ impl CostLaw for HopLaw {
 
     const NUMBER: u8 = 2;
 
-    ghost numbered = { law_number Hops };
+    ghost NUMBER = { law_number Hops };
 
     ghost measured = { λ _ _ near _ sender. power_of near sender };
 
@@ -36,28 +35,14 @@ impl CostLaw for HopLaw {
 
     ghost order = { λ a b o power any le e. ((hops a + 1) * 256 + max (weakness a) (255 - power), Prim.grind (arith, nat_tests), Prim.grind (arith, nat_tests)) };
 
-    fn law_number(&self) -> u8 {
-        Self::NUMBER
-    }
-
-    fn measure(
-        &self,
-        _settings: &Settings,
-        _class: EnergyClass,
-        neighbours: &Neighbours,
-        _time: u32,
-        sender: Address,
-    ) -> u8 {
-        power_of(neighbours, sender)
+    fn measure(&self, listener: &Listener<'_>, sender: Address) -> u8 {
+        power_of(listener.neighbours, sender)
     }
 
     fn extend(&self, cost: Cost, power: u8) -> Option<Cost> {
-        let hops = cost / 256;
-        if hops >= MOST_HOPS {
-            return None;
-        }
-        let weakness = (cost % 256).max((255 - power) as Cost);
-        Some((hops + 1) * 256 + weakness)
+        let [hops, weakness] = two_octets(cost);
+        let hops = hops.checked_add(1)?;
+        Some(Cost::from_be_bytes([hops, weakness.max(255 - power)]))
     }
 }
 
@@ -65,8 +50,5 @@ impl CostLaw for HopLaw {
 pub fn power_of(neighbours: &Neighbours, sender: Address) -> u8
     ensures { result ≡ power_of (rows neighbours.now) sender.0 }
 {
-    match find(neighbours.as_slice(), sender.0) {
-        Some(row) => row.power,
-        None => 0,
-    }
+    find(neighbours.as_slice(), sender.0).map_or(0, |row| row.power)
 }

@@ -1,45 +1,30 @@
-use Rattle.std.proofs.Common.{◌+◌, ◌≤◌, length, take, sym, ap, ◌∙◌, ap₂, arith, length-append}
-use Rattle.std.proofs.lemmas.List.{take_all}
+use Rattle.std.proofs.Common.{◌*◌, take, sym, ap, ◌∙◌, ap₂, arith}
 use Rattle.card.specs.Octets.{joined}
 use Rattle.card.specs.Placing.{placed}
-use Rattle.card.proofs.Joined.{joined_more, joined_room}
-use Rattle.card.proofs.Placed.{placed_more, placed_none}
+use Rattle.card.proofs.Joined.{joined_more, joined_part}
+use Rattle.card.proofs.Placed.{placed_mid, placed_more}
 use Rattle.card.proofs.listed.put_rows.Goals as goal
 
-pub put-next-requires : goal.put-next-requires
-put-next-requires g c =
-    let w = g.R.CardRow.written in
-    let x = c.row-item.result in
-    omega (
-      arith,
-      c.requires,
-      c.loop-row.invariant.0,
-      joined_room w c.args.all.now c.loop-row.row-index x c.loop-row-test.true c.row-item.is,
-      g.met.R.CardRow.sized x,
-    )
+pub overflow_mul-at : goal.overflow_mul-at
+overflow_mul-at g c = omega (arith, (joined_part g.R.CardRow.written g.row.W g.met.R.CardRow.sized c.args.all.now c.loop-i.i c.loop-i-test.true).1)
 
-pub loop-row-init : goal.loop-row-init
-loop-row-init g c = (omega arith, sym (placed_none c.args.out.now c.args.at))
+pub overflow_add-at : goal.overflow_add-at
+overflow_add-at g c = omega (arith, (joined_part g.R.CardRow.written g.row.W g.met.R.CardRow.sized c.args.all.now c.loop-i.i c.loop-i-test.true).1)
 
-pub loop-row-preserved : goal.loop-row-preserved
-loop-row-preserved g c =
+pub slice_bounds-copy_from_slice-end : goal.slice_bounds-copy_from_slice-end
+slice_bounds-copy_from_slice-end g c = omega (arith, (joined_part g.R.CardRow.written g.row.W g.met.R.CardRow.sized c.args.all.now c.loop-i.i c.loop-i-test.true).1)
+
+pub loop-i-preserved : goal.loop-i-preserved
+loop-i-preserved g c =
     let w = g.R.CardRow.written in
     let all = c.args.all.now in
+    let i = c.loop-i.i in
+    let x = c.index-all-i.result in
     let out = c.args.out.now in
-    let at = c.args.at in
-    let i = c.loop-row.row-index in
-    let x = c.row-item.result in
     let so_far = joined w (take i all) in
-    let more = joined_more w all i x c.loop-row-test.true c.row-item.is in
-    let room = joined_room w all i x c.loop-row-test.true c.row-item.is in
-    let fits : at + length so_far ≤ length out = omega (arith, c.requires) in
-    (omega (arith, c.put-next.ensures.next, c.loop-row.invariant.0, ap length more, length-append so_far (w x), g.met.R.CardRow.sized x), c.put-next.ensures.after ∙ ap₂ (λ o n. placed o n (w x)) c.loop-row.invariant.1 c.loop-row.invariant.0 ∙ placed_more out at so_far (w x) fits ∙ ap (placed out at) (sym more))
-
-pub returns : goal.returns
-returns g c =
-    let w = g.R.CardRow.written in
-    let all = ap (joined w) (take_all c.loop-row.row-index c.args.all.now c.loop-row-test.false) in
-    record {
-      next = c.loop-row.invariant.0 ∙ ap (λ l. c.args.at + length l) all;
-      after = c.loop-row.invariant.1 ∙ ap (placed c.args.out.now c.args.at) all;
-    }
+    let part = joined_part w g.row.W g.met.R.CardRow.sized all i c.loop-i-test.true in
+    placed_mid c.loop-i.out (i * g.row.W) _ c.copy_from_slice.new.self (omega (arith, c.copy_from_slice.ensures.len))
+    ∙ ap (placed c.loop-i.out (i * g.row.W)) (c.copy_from_slice.ensures.after ∙ c.octets.ensures)
+    ∙ ap₂ (λ o n. placed o n (w x)) c.loop-i.invariant (omega (arith, part.0))
+    ∙ placed_more out 0 so_far (w x) (omega (arith, c.requires, part.0, part.1))
+    ∙ ap (placed out 0) (sym (joined_more w all i x c.loop-i-test.true c.index-all-i.is))

@@ -1,9 +1,7 @@
-use Rattle.std.proofs.Common.{◌≡◌, ◌+◌, length, take}
+use Rattle.std.proofs.Common.{◌≡◌, take}
 use Rattle.card.specs.Octets.{joined}
 use Rattle.card.specs.Placing.{placed}
 use Rattle.card.proofs.listed.put_rows.Given as goal
 
-abbrev pub invariant-loop-row : goal.invariant-loop-row
-invariant-loop-row g l =
-    (l.next ≡ l.at + length (joined g.R.CardRow.written (take l.row-index l.all)))
-    × (l.out ≡ placed l.initial.out l.at (joined g.R.CardRow.written (take l.row-index l.all)))
+abbrev pub invariant-loop-i : goal.invariant-loop-i
+invariant-loop-i g l = l.out ≡ placed l.initial.out 0 (joined g.R.CardRow.written (take l.i l.all))
