@@ -6,7 +6,7 @@ use Rattle.std.proofs.lemmas.List.{drop_at, drop_all, append-nil, get_or_append_
 use Rattle.field.specs.Codes.{class_code}
 use Rattle.field.specs.Wide.{at, wide, wide_at, long, long_at}
 use Rattle.field.proofs.Wides.{Octets, by_places, wide_places, long_places}
-use Rattle.table.specs.Filters.{every}
+use Rattle.std.specs.List.{list_all}
 use Rattle.record.specs.Lawful.{Lawful}
 use Rattle.record.specs.Records.{state, MakesRecord}
 use Rattle.record.specs.States.{State}
@@ -52,7 +52,7 @@ card_is head rest octets ten s a c n l near far rows =
 
 -- ---- so making the record decides reading
 
-pub reads_made : (xs : List ℕ) (s : State) → card s ≡ xs → every plain s.trees ≡ true → (a : Result Record RecordFault) → MakesRecord s a → MatchOption (result_ok a) ((r : Record) → card (state r) ≢ xs) (λ r. card (state r) ≡ xs)
+pub reads_made : (xs : List ℕ) (s : State) → card s ≡ xs → list_all plain s.trees ≡ true → (a : Result Record RecordFault) → MakesRecord s a → MatchOption (result_ok a) ((r : Record) → card (state r) ≢ xs) (λ r. card (state r) ≡ xs)
 reads_made xs s e p (Ok r) made = ap card made.0 ∙ e
 reads_made xs s e p (Err Unlawful) made = λ r q. made (subst Lawful (one_card (state r) s (record_plain r) p (q ∙ sym e)) (lawful r)) where
   lawful : (r : Record) → Lawful (state r)

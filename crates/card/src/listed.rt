@@ -1,7 +1,7 @@
 ghost use Rattle.std.specs.Prelude.{◌≡◌, ℕ, ◌<◌, ◌≤◌, ◌^◌, Bool, true, List, ◌++◌, length, MatchOption, ◌≢◌};
 ghost use Rattle.card.specs.Octets.{joined};
 ghost use Rattle.card.specs.Placing.{placed};
-ghost use Rattle.table.specs.Filters.{every};
+ghost use Rattle.std.specs.List.{list_all};
 ghost use Rattle.table.specs.Rows.{rows};
 
 use table::Table;
@@ -31,15 +31,13 @@ pub fn read_rows<R: CardRow<W>, const W: usize, const N: usize>(
     octets: &[u8],
     filler: R,
 ) -> Option<(Table<R, N>, &[u8])>
-    ensures { MatchOption result ((xs : List R) (rest : List ℕ) → length xs ≡ count → length xs ≤ N → joined R.CardRow.written xs ++ rest ≢ octets.now) (λ p. (joined R.CardRow.written (rows p.0) ++ p.1.now ≡ octets.now) × (length (rows p.0) ≡ count) × (every R.CardRow.plain (rows p.0) ≡ true)) }
+    ensures { MatchOption result ((xs : List R) (rest : List ℕ) → length xs ≡ count → length xs ≤ N → joined R.CardRow.written xs ++ rest ≢ octets.now) (λ p. (joined R.CardRow.written (rows p.0) ++ p.1.now ≡ octets.now) × (length (rows p.0) ≡ count) × (list_all R.CardRow.plain (rows p.0) ≡ true)) }
 {
     let mut all = Table::new(filler);
     let mut left = octets;
     for _ in 0..count {
         let (row, rest) = left.split_first_chunk::<W>()?;
-        if !all.push(R::read(row)?) {
-            return None;
-        }
+        all.push(R::read(row)?).ok()?;
         left = rest;
     }
     Some((all, left))

@@ -1,11 +1,19 @@
-use Rattle.std.proofs.Common.{◌≡◌, cond, [], ◌∷◌, ◌++◌, length, sym, ap, ◌∙◌, ap₂, arith, length-append, take-append-drop}
+use Rattle.std.proofs.Common.{◌≡◌, ℕ, List, [], ◌∷◌, ◌++◌, length, sym, ap, ◌∙◌, ap₂, arith, length-append, take-append-drop, Some, Ok, Err, Result}
+use Rattle.std.specs.Result.{result_ok}
+use Rattle.table.specs.Pushing.{Pushes}
+use Rattle.table.specs.declared.tables.Full.{Full}
 use Rattle.std.proofs.lemmas.List.{append_assoc}
 use Rattle.table.proofs.Every.{every_push}
-use Rattle.table.specs.Filters.{every}
+use Rattle.std.specs.List.{list_all}
 use Rattle.table.specs.Rows.{rows}
 use Rattle.card.specs.Octets.{joined}
 use Rattle.card.proofs.Joined.{joined_next, joined_push}
 use Rattle.card.proofs.listed.read_rows.Goals as goal
+
+-- a row that was let in is the last
+taken : {X : Type 0} (n : ℕ) (x : X) (had after : List X) (r : Result (Unit {0}) Full) (u : Unit {0}) → Pushes n x had after r → Some u ≡ result_ok r → after ≡ had ++ x ∷ []
+taken n x had after (Ok done) u p e = p.1
+taken n x had after (Err full) u p e = absurd cc
 
 pub split_first_chunk-requires : goal.split_first_chunk-requires
 split_first_chunk-requires g c = omega (arith, g.met.R.CardRow.fits)
@@ -31,7 +39,7 @@ loop-preserved g c =
     let had = rows c.loop.all in
     let x = c.in_ok-read.field-0 in
     let row = c.in_ok-row.ensures.cases in
-    let now : rows c.push.new.self ≡ had ++ x ∷ [] = c.push.ensures.after ∙ ap (λ b. cond b (had ++ x ∷ []) had) c.if-not-push.false in
+    let now : rows c.push.new.self ≡ had ++ x ∷ [] = taken g.row.N x had _ c.push.result c.in_ok-ok.field-0 c.push.ensures c.in_ok-ok.ensures.value in
     let whole : w x ++ c.in_ok-row.rest.now ≡ left = ap₂ (λ a b. a ++ b) (c.in_ok-read.ensures.0 ∙ row.0) row.1 ∙ take-append-drop g.row.W left in
     record {
       split = ap (λ l. joined w l ++ c.in_ok-row.rest.now) now
@@ -40,5 +48,5 @@ loop-preserved g c =
           ∙ ap (λ l. joined w had ++ l) whole
           ∙ c.loop.invariant.split;
       many = ap length now ∙ omega (arith, length-append had (x ∷ []), c.loop.invariant.many);
-      are_plain = ap (every g.R.CardRow.plain) now ∙ every_push g.R.CardRow.plain had x c.loop.invariant.are_plain c.in_ok-read.ensures.1;
+      are_plain = ap (list_all g.R.CardRow.plain) now ∙ every_push g.R.CardRow.plain had x c.loop.invariant.are_plain c.in_ok-read.ensures.1;
     }
