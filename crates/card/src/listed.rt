@@ -44,9 +44,9 @@ pub fn read_rows<R: CardRow, const N: usize>(octets: &[u8], filler: R) -> Option
             return None;
         }
         let row = R::read(&left[0..width])?;
-        if !all.push(row) {
+        let Ok(()) = all.push(row) else {
             return None;
-        }
+        };
         left = &left[width..];
     }
     Some(all)

@@ -58,6 +58,6 @@ fn inspect_card(heap: Global, line: &[u8]) -> Result<InspectedLine, AllocError>
             let rewritten = compare_card(&held, octets);
             Ok(InspectedLine::Record(format!(in heap; "{text} rewritten={rewritten}")?))
         }
-        Err(unlawful) => Ok(InspectedLine::Refused(unlawful.number())),
+        Err(unlawful) => Ok(InspectedLine::Refused(unlawful.into())),
     }
 }

@@ -1,6 +1,5 @@
-use Rattle.std.proofs.Common.{◌≡◌, ℕ, suc, ◌-◌, ◌≤◌, cond, List, [], ◌∷◌, ◌++◌, length, take, drop, sym, refl, ap, ◌∙◌, ap₂, arith, length-append, take-append-drop, length-take}
+use Rattle.std.proofs.Common.{◌≡◌, ℕ, suc, ◌-◌, ◌≤◌, List, [], ◌∷◌, ◌++◌, length, take, drop, sym, refl, ap, ◌∙◌, ap₂, arith, length-append, take-append-drop, length-take}
 use Rattle.std.proofs.lemmas.List.{append_assoc, append-nil, take_rest}
-use Rattle.std.proofs.lemmas.Bool.{ltb-false}
 use Rattle.table.proofs.Every.{every_push}
 use Rattle.std.specs.List.{list_all}
 use Rattle.table.specs.Rows.{rows}
@@ -30,11 +29,11 @@ returns-in_err-row g c =
     let next = joined_next g.R.CardRow.written g.R.CardRow.wide g.met.R.CardRow.sized xs _ left (c.loop-left.invariant.2 xs e).1 c.loop-left-test.true in
     c.in_err-row.ensures next.0 (next.2 ∙ start left c.width-width.result g.R.CardRow.wide c.width-width.ensures))
 
-pub returns-then-not-push : goal.returns-then-not-push
-returns-then-not-push g c xs few e =
+pub returns-in_default : goal.returns-in_default
+returns-in_default g c xs few e =
     let left = c.loop-left.left.now in
     let next = joined_next g.R.CardRow.written g.R.CardRow.wide g.met.R.CardRow.sized xs _ left (c.loop-left.invariant.2 xs e).1 c.loop-left-test.true in
-    omega (arith, next.1, ltb-false _ _ (sym c.push.ensures.room ∙ c.if-not-push.true))
+    omega (arith, next.1, c.in_default.ensures.0)
 
 pub loop-left-preserved : goal.loop-left-preserved
 loop-left-preserved g c =
@@ -45,7 +44,7 @@ loop-left-preserved g c =
     let had = rows c.loop-left.all in
     let x = c.in_ok-row.row in
     let got = c.in_ok-row.ensures in
-    let now : rows c.push.new.self ≡ had ++ x ∷ [] = c.push.ensures.after ∙ ap (λ b. cond b (had ++ x ∷ []) had) c.if-not-push.false in
+    let now : rows c.push.new.self ≡ had ++ x ∷ [] = c.in-Ok.ensures.1 in
     let rest : take (length left - width) (drop width left) ≡ drop width left = take_rest left width in
     let first : w x ≡ take width left = got.0 ∙ sym (start left width width refl) in
     let whole : w x ++ drop width left ≡ left = ap (λ l. l ++ drop width left) first ∙ take-append-drop width left in
