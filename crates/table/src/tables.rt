@@ -6,8 +6,8 @@ use std::alloc::AllocError;
 #[derive(Clone, Copy, PartialEq, Eq, Debug)]
 pub struct Full;
 
-// The first `count` of `items` are the rows; the others are fillers. A `Vec` would need a heap, and arrayvec's is not
-// `Copy`.
+// The first `count` of `items` are the rows; the others are fillers. A length beside an array, since a gauge has no
+// heap for a `Vec`, and an `ArrayVec` is not `Copy`.
 #[derive(Copy)]
 pub struct Table<T, const N: usize> {
     items: [T; N],
