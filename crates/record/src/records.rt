@@ -68,9 +68,8 @@ impl Record {
         self.latest = time;
         self.neighbours.retain(|row| row.is_heard(time));
         let own = self.address;
-        let near = self.neighbours;
-        self.trees
-            .update(|row| row.lapse(own, near.as_slice(), time));
+        let near = self.neighbours.as_slice();
+        self.trees.update(|row| row.lapse(own, near, time));
         Ok(())
     }
 

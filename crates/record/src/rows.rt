@@ -1,6 +1,6 @@
 ghost use Rattle.std.specs.Prelude.{◌≡◌};
 ghost use Rattle.record.specs.Lawful.{lawful_neighbour, lawful_tree};
-ghost use Rattle.record.specs.Settling.{heard, lapses, lapsed};
+ghost use Rattle.record.specs.Settling.{heard, held, lapses, lapsed};
 ghost use Rattle.record.specs.Symmetry.{symmetric, linked};
 
 use field::{Address, Cost, EnergyClass, Flag, Flags, TreeSequenceNumber, WaveNumber};
@@ -114,14 +114,19 @@ impl TreeRow {
             && (!self.owed || self.ttl > 0)
     }
 
+    // Whether there is a parent, and it is a symmetric neighbour.
+    fn is_held(&self, near: &[NeighbourRow], time: u32) -> bool
+        ensures { result ≡ held near.now time self.now.parent }
+    {
+        self.parent
+            .is_some_and(|parent| is_symmetric(near, time, parent))
+    }
+
     // Whether the row is of another root, and past or without a symmetric parent.
     fn is_lapsed(&self, own: Address, near: &[NeighbourRow], time: u32) -> bool
         ensures { result ≡ lapses own.0 near.now time self.now }
     {
-        let is_held = self
-            .parent
-            .is_some_and(|parent| is_symmetric(near, time, parent));
-        self.root != own && (self.valid_until < time || !is_held)
+        self.root != own && (self.valid_until < time || !self.is_held(near, time))
     }
 
     // Such a row loses its parent, and owes nothing.

@@ -1,6 +1,7 @@
 -- What every row passes, the rows that are kept, added or changed pass.
-use Rattle.std.proofs.Common.{◌≡◌, Bool, true, false, cond, List, [], ◌∷◌, ◌++◌, map, filter, refl}
+use Rattle.std.proofs.Common.{◌≡◌, Bool, true, false, cond, List, [], ◌∷◌, ◌++◌, map, filter, refl, ap₂, ◌∙◌, ◌&&◌}
 use Rattle.std.proofs.lemmas.Bool.{and_parts, and_from}
+use Rattle.std.proofs.lemmas.List.Folds.{list_all-append}
 use Rattle.std.specs.List.{list_all}
 
 module _ {X : Type 0} (p : X → Bool) where
@@ -12,10 +13,7 @@ module _ {X : Type 0} (p : X → Bool) where
       elim (q x) as (λ b. list_all p (cond b (x ∷ filter q xs) (filter q xs)) ≡ true) [ true ↦ and_from (p x) (list_all p (filter q xs)) both.0 rest | false ↦ rest ]
 
   pub every_push : (xs : List X) (x : X) → list_all p xs ≡ true → p x ≡ true → list_all p (xs ++ x ∷ []) ≡ true
-  every_push [] x h k = and_from (p x) true k refl
-  every_push (y ∷ xs) x h k =
-      let both = and_parts (p y) (list_all p xs) h in
-      and_from (p y) (list_all p (xs ++ x ∷ [])) both.0 (every_push xs x both.1 k)
+  every_push xs x h k = list_all-append p xs (x ∷ []) ∙ ap₂ (λ a b. a && (b && true)) h k
 
   pub every_map : (f : X → X) → ((x : X) → p x ≡ true → p (f x) ≡ true) → (xs : List X) → list_all p xs ≡ true → list_all p (map f xs) ≡ true
   every_map f good [] h = refl

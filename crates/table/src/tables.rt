@@ -6,8 +6,9 @@ use std::alloc::AllocError;
 #[derive(Clone, Copy, PartialEq, Eq, Debug)]
 pub struct Full;
 
-// The first `count` of `items` are the rows; the others are fillers. A `Vec` would need a heap, and arrayvec's is not
-// `Copy`.
+// The first `count` of `items` are the rows; the others are fillers. A length beside an array, since a gauge has no
+// heap for a `Vec`, and an `ArrayVec` is not `Copy`. No `impl Model`, since the fillers of a `Copy` type would have to
+// follow from the rows.
 #[derive(Copy)]
 pub struct Table<T, const N: usize> {
     items: [T; N],
@@ -114,7 +115,8 @@ impl<T: Copy, const N: usize> Table<T, N> {
         }
     }
 
-    // Changes each row in its place.
+    // Changes each row in its place. It takes a closure, since a slice that is lent would owe `whole` at a list of any
+    // length.
     pub fn update<F: Fn(&mut T)>(&mut self, change: F)
         requires { F.IsAlwaysCallable change }
         ensures { AllZip (λ x y. FnOnceReturnsAtMut F.FnOnce change x tt y) (rows self.old) (rows self.new) }
