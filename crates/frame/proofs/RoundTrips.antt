@@ -5,7 +5,8 @@ use Rattle.frame.specs.Octets.{octets, hello_octets, stc_fields, tree_status_fie
 use Rattle.frame.specs.Reading.{Rule, stc_at, tree_status_at}
 use Rattle.frame.specs.RoundTrip.{WrittenIsRead, ReadIsWritten, MessagesAreShort}
 use Rattle.frame.specs.Rules.{WellFormed, StcRules, TreeStatusRules}
-use Rattle.frame.specs.Values.{HelloValues, StcValues, TreeStatusValues, Values, hello, stc, tree_status, values}
+use Rattle.frame.specs.Values.{HelloValues, StcValues, TreeStatusValues, Values, hello, stc, tree_status}
+use Rattle.frame.specs.Messages.{values}
 use Rattle.field.specs.Wide.{at, wide_at}
 use Rattle.frame.specs.declared.faults.ReadFault.{ReadFault}
 use Rattle.frame.specs.declared.faults.ReadFault.TheVariants.{Short, UnknownKind, WrongSize, BadField, BadGroup}

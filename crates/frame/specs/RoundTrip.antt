@@ -3,7 +3,8 @@ use Rattle.std.specs.Prelude.{◌≡◌, ℕ, ◌≤◌, List, [], ◌∷◌, �
 use Rattle.frame.specs.Octets.{octets}
 use Rattle.frame.specs.Reading.{Reads, Says}
 use Rattle.frame.specs.Rules.{WellFormed}
-use Rattle.frame.specs.Values.{Values, stc, values}
+use Rattle.frame.specs.Values.{Values, stc}
+use Rattle.frame.specs.Messages.{values}
 use Rattle.frame.specs.Writing.{WritesMessage}
 use Rattle.frame.specs.declared.faults.ReadFault.{ReadFault}
 use Rattle.frame.specs.declared.faults.WriteFault.{WriteFault}

@@ -1,6 +1,6 @@
 ghost use Rattle.frame.specs.Octets.{octets};
 ghost use Rattle.frame.specs.Reading.{Reads};
-ghost use Rattle.frame.specs.Values.{values};
+ghost use Rattle.frame.specs.Messages.{values};
 ghost use Rattle.frame.specs.Writing.{WritesMessage};
 
 use super::faults::{ReadFault, WriteFault};
