@@ -1,9 +1,6 @@
 ghost use Rattle.std.specs.Prelude.{◌≡◌};
-ghost use Rattle.frame.specs.Making.{MakesHello};
-ghost use Rattle.frame.specs.Octets.{octets};
-ghost use Rattle.frame.specs.Reading.{ReadsHello};
-ghost use Rattle.frame.specs.Values.{hello, hello_values};
-ghost use Rattle.frame.specs.Writing.{WritesMessage};
+ghost use Rattle.frame.specs.Rules.{HelloRules};
+ghost use Rattle.frame.specs.Values.{hello_values};
 
 use super::faults::{ReadFault, WriteFault};
 use field::{Address, EnergyClass, Kind, two_octets};
@@ -24,9 +21,16 @@ pub struct HelloFields<'a> {
 #[derive(Clone, Copy)]
 pub struct Hello<'a> {
     fields: HelloFields<'a>,
+    ghost rules: { ∥ HelloRules (hello_values fields) ∥₁ },
 }
 
 impl<'a> Hello<'a> {
+    ghost use Rattle.frame.specs.Making.{MakesHello};
+    ghost use Rattle.frame.specs.Octets.{octets};
+    ghost use Rattle.frame.specs.Reading.{ReadsHello};
+    ghost use Rattle.frame.specs.Values.{hello};
+    ghost use Rattle.frame.specs.Writing.{WritesMessage};
+
     pub fn new(fields: HelloFields<'a>) -> Result<Hello<'a>, ReadFault>
         ensures { MakesHello (hello_values fields.entry) result }
     {
