@@ -68,10 +68,10 @@ module _ (s a : List ℕ) (few : length (s ++ a) ≤ 16) where
 
 -- the tests that octets are groups, over the parts that they are split into
 unfoldable pub tests : List ℕ → List ℕ → List ℕ → Bool
-tests s a rest = eqb (length rest) 0 && (leb (length s + length a) 32 && (all_new (numbers s) (numbers a) && all_new (numbers a) []))
+tests s a rest = eqb (length rest) 0 && (leb (length (s ++ a)) 16 && (all_new s a && all_new a []))
 
-abbrev tested : List ℕ → Bool
-tested xs = tests (sym_octets xs) (asym_octets xs) (left_over xs)
+abbrev pub tested : List ℕ → Bool
+tested xs = tests (sym_in xs) (asym_in xs) (left_over xs)
 
 -- octets that are groups pass them
 tested_from : (xs : List ℕ) → Grouped xs → tested xs ≡ true
@@ -82,14 +82,12 @@ tested_from xs g =
     let rules = g.2 in
     let few = rules.few in
     let both = and_parts (all_new s a) (all_new a []) (sym (new_append s a) ∙ are_new (s ++ a) rules.given rules.distinct) in
-    let count : leb (length (wides s) + length (wides a)) 32 ≡ true = le-leb _ _ (omega (arith, length_wides s, length_wides a, length-append s a)) in
-    let first : all_new (numbers (wides s)) (numbers (wides a)) ≡ true = rw (numbers_wides s, numbers_wides a) both.0 in
-    let second : all_new (numbers (wides a)) [] ≡ true = rw (numbers_wides a) both.1 in
-    let all : tests (wides s) (wides a) [] ≡ true = rw (count, first, second) refl in
+    let count : leb (length (s ++ a)) 16 ≡ true = le-leb _ _ few in
+    let all : tests s a [] ≡ true = rw (count, both.0, both.1) refl in
     ap tested (sym g.3)
-    ∙ ap (λ l. tests l (asym_octets (groups s a)) (left_over (groups s a))) (front_sym s a few)
-    ∙ ap (λ l. tests (wides s) l (left_over (groups s a))) (front_asym s a few)
-    ∙ ap (tests (wides s) (wides a)) (after_asym s a few)
+    ∙ ap (λ l. tests l (asym_in (groups s a)) (left_over (groups s a))) (sym_in_groups s a few)
+    ∙ ap (λ l. tests s l (left_over (groups s a))) (asym_in_groups s a few)
+    ∙ ap (tests s a) (after_asym s a few)
     ∙ all
 
 -- ---- from octets to lists
@@ -153,34 +151,23 @@ rejoins code xs octets =
 after_octets : (code : ℕ) (xs : List ℕ) → Octets xs → Octets (after code xs)
 after_octets code xs octets = cond_both (begins code xs) _ _ Octets (λ _. octets_drop (at xs 1) xs octets) (λ _. octets)
 
--- the addresses are half as many as their octets
-half : (code : ℕ) (xs : List ℕ) → length (front code xs) ≡ 2 * length (numbers (front code xs))
-half code xs =
-    elim (cases_Bool (begins code xs)) [
-      | inl whole ↦ let n = front_length code xs whole in omega (arith, length_numbers ((at xs 1 - 2) / 2) (front code xs) n)
-      | inr none ↦ let none_in : front code xs ≡ [] = cond-false (begins code xs) _ _ none in rw none_in
-    ]
-
 -- octets that pass the tests are groups
 tested_says : (xs : List ℕ) → Octets xs → tested xs ≡ true → Grouped xs
-unfolding tests
+unfolding tests sym_in asym_in
 tested_says xs octets test =
-    let s = numbers (sym_octets xs) in
-    let a = numbers (asym_octets xs) in
+    let s = sym_in xs in
+    let a = asym_in xs in
     let empty = length (left_over xs) in
-    let count = length (sym_octets xs) + length (asym_octets xs) in
-    let p = and_parts (eqb empty 0) (leb count 32 && (all_new s a && all_new a [])) test in
-    let q = and_parts (leb count 32) (all_new s a && all_new a []) p.1 in
+    let count = length (s ++ a) in
+    let p = and_parts (eqb empty 0) (leb count 16 && (all_new s a && all_new a [])) test in
+    let q = and_parts (leb count 16) (all_new s a && all_new a []) p.1 in
     let new : all_new (s ++ a) [] ≡ true = new_append s a ∙ q.1 in
-    let few : length (s ++ a) ≤ 16 = omega (arith, leb-true count 32 q.0, half 1 xs, half 2 (after 1 xs), length-append s a) in
     let none : left_over xs ≡ [] = length_none (left_over xs) (eqb-true empty 0 p.0) in
     let second : group 2 a ≡ after 1 xs =
     sym (append-nil (group 2 a)) ∙ ap (λ l. group 2 a ++ l) (sym none) ∙ rejoins 2 (after 1 xs) (after_octets 1 xs octets) in
-    (s, a, record { few = few; given = new_given (s ++ a) new; distinct = new_distinct (s ++ a) new }, ap (λ l. group 1 s ++ l) second ∙ rejoins 1 xs octets)
+    (s, a, record { few = leb-true count 16 q.0; given = new_given (s ++ a) new; distinct = new_distinct (s ++ a) new }, ap (λ l. group 1 s ++ l) second ∙ rejoins 1 xs octets)
 
 -- so the tests decide whether octets are groups
-pub decides : (xs s a rest : List ℕ) → Octets xs → s ≡ sym_octets xs → a ≡ asym_octets xs → rest ≡ left_over xs → (r : Bool) → r ≡ tests s a rest → MatchBool r (Grouped xs) (Grouped xs → ⊥)
-decides xs s a rest octets es ea er r e = go r (e ∙ cc) where
-  go : (r : Bool) → r ≡ tested xs → MatchBool r (Grouped xs) (Grouped xs → ⊥)
-  go true is = tested_says xs octets (sym is)
-  go false is = λ g. both_ways (tested xs) (sym is) (tested_from xs g)
+pub decides : (xs : List ℕ) → Octets xs → (r : Bool) → r ≡ tested xs → MatchBool r (Grouped xs) (Grouped xs → ⊥)
+decides xs octets true is = tested_says xs octets (sym is)
+decides xs octets false is = λ g. both_ways (tested xs) (sym is) (tested_from xs g)
