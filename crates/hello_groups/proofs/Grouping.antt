@@ -4,8 +4,9 @@ use Rattle.std.proofs.lemmas.List.{append-nil, take_at, drop_at, take-append-dro
 use Rattle.std.proofs.lemmas.Bool.{and_parts, and_from, and_right, cond-true, cond-false, cond_both, le-leb, eq-eqb, leb-true, eqb-true, cases_Bool, both_ways}
 use Rattle.hello_groups.proofs.Distinct.{new_append, new_given, new_distinct, are_new}
 use Rattle.field.proofs.Wides.{Octets, octets_take, octets_drop, first_two, numbers_wides, length_wides, wides_numbers, length_numbers}
-use Rattle.hello_groups.specs.Groups.{group, groups, Grouped}
-use Rattle.hello_groups.specs.Splitting.{is_size, begins, front, after, sym_octets, asym_octets, left_over, sym_in, asym_in, all_new}
+use Rattle.std.specs.Coded.{le_prop, Coded-set, coded_list, coded_ℕ}
+use Rattle.hello_groups.specs.Groups.{Listable, group, groups, Grouped}
+use Rattle.hello_groups.specs.Splitting.{is_size, begins, front, after, left_over, sym_in, asym_in, all_new}
 use Rattle.field.specs.Wide.{numbers, wides, at}
 
 -- ---- from lists to octets
@@ -171,3 +172,28 @@ tested_says xs octets test =
 pub decides : (xs : List ℕ) → Octets xs → (r : Bool) → r ≡ tested xs → MatchBool r (Grouped xs) (Grouped xs → ⊥)
 decides xs octets true is = tested_says xs octets (sym is)
 decides xs octets false is = λ g. both_ways (tested xs) (sym is) (tested_from xs g)
+
+-- ---- octets are the groups of one pair of lists
+
+module _ (xs s a : List ℕ) where
+  abbrev Lists : Type 0
+  Lists = Listable (s ++ a) × (groups s a ≡ xs)
+
+  lists_prop : IsProp Lists
+  lists_prop = hlevel (le_prop, Coded-set (coded_list coded_ℕ))
+
+  abbrev grouping : Lists → Grouped xs
+  grouping p = (s, a, p.0, p.1)
+
+same_grouping : (xs s a : List ℕ) (p : Lists xs s a) (s' : List ℕ) → s ≡ s' → (a' : List ℕ) → a ≡ a' → (p' : Lists xs s' a') → grouping xs s a p ≡ grouping xs s' a' p'
+same_grouping xs s a p s' es a' ea =
+    subst (λ t. (q : Lists xs t a') → grouping xs s a p ≡ grouping xs t a' q) es
+    (subst (λ b. (q : Lists xs s b) → grouping xs s a p ≡ grouping xs s b q) ea (λ q. ap (grouping xs s a) (lists_prop xs s a p q)))
+
+pub grouped_prop : (xs : List ℕ) → IsProp (Grouped xs)
+grouped_prop xs g h =
+    let few = g.2.few in
+    let few' = h.2.few in
+    let same = g.3 ∙ sym h.3 in
+    same_grouping xs g.0 g.1 (g.2, g.3) h.0 (sym (sym_in_groups g.0 g.1 few) ∙ ap sym_in same ∙ sym_in_groups h.0 h.1 few')
+    h.1 (sym (asym_in_groups g.0 g.1 few) ∙ ap asym_in same ∙ asym_in_groups h.0 h.1 few') (h.2, h.3)

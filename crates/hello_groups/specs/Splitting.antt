@@ -1,5 +1,5 @@
 -- Octets taken apart into the addresses of each code, whatever the octets are.
-use Rattle.std.specs.Prelude.{ℕ, ◌-◌, ◌%◌, Bool, true, false, cond, not, ◌&&◌, ◌||◌, List, [], ◌∷◌, length, take, drop, ◌==◌, nat_le}
+use Rattle.std.specs.Prelude.{ℕ, ◌-◌, ◌%◌, Bool, true, cond, not, ◌&&◌, ◌||◌, List, [], ◌∷◌, length, take, drop, ◌==◌, nat_le}
 use Rattle.std.specs.List.{list_any}
 use Rattle.field.specs.Wide.{numbers, at}
 

@@ -8,6 +8,7 @@ use super::splitting::{Parts, split};
 const MOST_ADDRESSES: usize = 16;
 
 // Whether the octets are groups that keep the rules, and nothing else.
+#[tactic(auto, using(crate::proofs::Grouping::decides), unfolding(crate::proofs::Grouping::tests))]
 pub fn are_groups(octets: &[u8]) -> bool
     ensures { MatchBool result (Grouped octets.now) (Grouped octets.now → ⊥) }
 {

@@ -31,12 +31,18 @@ fn split_group(octets: &[u8], code: LinkCode) -> (Addresses<'_>, &[u8])
     match octets {
         [first, size, ..] if *first == u8::from(code) && is_size(*size as usize, octets.len()) => {
             let (group, rest) = octets.split_at(*size as usize);
-            (Addresses { octets: &group[2..] }, rest)
+            (
+                Addresses {
+                    octets: &group[2..],
+                },
+                rest,
+            )
         }
         _ => (Addresses { octets: &[] }, octets),
     }
 }
 
+#[tactic(auto, unfolding(crate::specs::Splitting::sym_in, crate::specs::Splitting::asym_in))]
 pub fn split(octets: &[u8]) -> Parts<'_>
     ensures sym { addresses result.sym ≡ sym_in octets.now }
     ensures asym { addresses result.asym ≡ asym_in octets.now }

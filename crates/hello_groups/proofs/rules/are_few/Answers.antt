@@ -1,4 +1,4 @@
-use Rattle.std.proofs.Common.{refl, ap, nat_le}
+use Rattle.std.proofs.Common.{ap, nat_le}
 use Rattle.std.proofs.lemmas.Iterator.Consumers.{YieldsList-from_first, YieldsList-from_chain, count_from_yields_List}
 use Rattle.hello_groups.specs.Listed.{addresses}
 use Rattle.hello_groups.proofs.rules.are_few.Goals as goal
