@@ -4,6 +4,9 @@ use Rattle.std.proofs.lemmas.Bool.{and_parts, and_from, or_parts, or_from, not-t
 use Rattle.std.proofs.lemmas.List.Folds.{list_any-append, list_any_at}
 use Rattle.hello_groups.specs.Splitting.{stands_in, all_new}
 
+pub stands_append : (x : ℕ) (xs ys : List ℕ) → stands_in x (xs ++ ys) ≡ (stands_in x xs || stands_in x ys)
+stands_append x = list_any-append (λ y. eqb y x)
+
 -- an address that does not stand in a list differs from each of it
 pub not_standing : (x : ℕ) (xs : List ℕ) → stands_in x xs ≡ false → (i : ℕ) → i < length xs → x ≡ get_or xs i 0 → ⊥
 not_standing x xs h i l e = both_ways (stands_in x xs) h (list_any_at (λ y. eqb y x) xs i 0 l (eq-eqb _ _ (sym e)))
@@ -23,7 +26,7 @@ both_new false false false d e = refl
 pub new_append : (xs ys : List ℕ) → all_new (xs ++ ys) [] ≡ (all_new xs ys && all_new ys [])
 new_append [] ys = refl
 new_append (x ∷ xs) ys =
-    ap (λ b. not (eqb x 0 || (b || false)) && all_new (xs ++ ys) []) (list_any-append (λ y. eqb y x) xs ys)
+    ap (λ b. not (eqb x 0 || (b || false)) && all_new (xs ++ ys) []) (stands_append x xs ys)
     ∙ ap (λ b. not (eqb x 0 || ((stands_in x xs || stands_in x ys) || false)) && b) (new_append xs ys)
     ∙ both_new (eqb x 0) (stands_in x xs) (stands_in x ys) (all_new xs ys) (all_new ys [])
 

@@ -21,11 +21,12 @@ impl<'a> Groups<'a> {
     }
 
     // Whether the address stands under either code.
+    #[tactic(auto, using(crate::proofs::Distinct::stands_append))]
     pub fn list(self, address: Address) -> bool
         ensures { result ≡ stands_in address.0 (sym_in self.entry.0.now ++ asym_in self.entry.0.now) }
     {
         let Parts { sym, asym, .. } = split(self.0);
-        sym.chain(asym).any(|other| other == address)
+        sym.contains(address) || asym.contains(address)
     }
 
     pub fn addresses(self, code: LinkCode) -> Addresses<'a>
