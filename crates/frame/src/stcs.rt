@@ -19,7 +19,7 @@ pub struct StcFields {
     pub tree: TreeSequenceNumber,
 }
 
-// Keeps the rules of an STC, since it is made by `new` alone.
+// An STC that keeps the rules.
 #[derive(Clone, Copy)]
 pub struct Stc {
     fields: StcFields,

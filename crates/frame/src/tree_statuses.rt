@@ -16,7 +16,7 @@ pub struct TreeStatusFields {
     pub flags: Flags,
 }
 
-// Keeps the rules of a Tree Status, since it is made by `new` alone.
+// A Tree Status that keeps the rules.
 #[derive(Clone, Copy)]
 pub struct TreeStatus {
     fields: TreeStatusFields,
