@@ -4,8 +4,9 @@ use Rattle.hello_groups.specs.Groups.{group}
 use Rattle.frame.specs.Octets.{octets, hello_octets, stc_fields, tree_status_fields}
 use Rattle.frame.specs.Reading.{Rule, stc_at, tree_status_at}
 use Rattle.frame.specs.RoundTrip.{WrittenIsRead, ReadIsWritten, MessagesAreShort}
-use Rattle.frame.specs.Rules.{WellFormed, StcRules, TreeStatusRules}
-use Rattle.frame.specs.Values.{HelloValues, StcValues, TreeStatusValues, Values, hello, stc, tree_status, values}
+use Rattle.frame.specs.Rules.{WellFormed, HelloRules, StcRules, TreeStatusRules}
+use Rattle.frame.specs.Values.{HelloValues, StcValues, TreeStatusValues, Values, hello, stc, tree_status}
+use Rattle.frame.specs.Messages.{values}
 use Rattle.field.specs.Wide.{at, wide_at}
 use Rattle.frame.specs.declared.faults.ReadFault.{ReadFault}
 use Rattle.frame.specs.declared.faults.ReadFault.TheVariants.{Short, UnknownKind, WrongSize, BadField, BadGroup}
@@ -77,9 +78,10 @@ group_length : (code : ℕ) (l : List ℕ) → length (group code l) ≤ 2 + 2 *
 group_length code [] = omega arith
 group_length code (a ∷ more) = omega (arith, length_wides more)
 
-pub messages_are_short : MessagesAreShort
-messages_are_short (hello h) w =
-    let g = w.groups in
+-- the octets of a Hello number at most those of sixteen addresses in two groups
+pub hellos_are_short : (h : HelloValues) → HelloRules h → length h.groups ≤ 36
+hellos_are_short h rules =
+    let g = rules.groups in
     let s = g.0 in
     let a = g.1 in
     omega (
@@ -91,6 +93,9 @@ messages_are_short (hello h) w =
       group_length 1 s,
       group_length 2 a,
     )
+
+pub messages_are_short : MessagesAreShort
+messages_are_short (hello h) w = omega (arith, hellos_are_short h w)
 messages_are_short (stc s) w = omega arith
 messages_are_short (tree_status t) w = omega arith
 
@@ -98,8 +103,8 @@ pub read_is_written : ReadIsWritten
 read_is_written xs m reads before now (Ok n) writes fits =
     let new = octets (values m) in
     let same : new ≡ xs = reads.1 in
-    let done = writes.0 (omega (arith, messages_are_short (values m) reads.0)) in
+    let done = writes in
     (ap Ok (done.0 ∙ ap length same), done.2 ∙ ap (λ l. l ++ drop (length l) before) same)
 read_is_written xs m reads before now (Err OutputTooShort) writes fits =
-    let refused = writes.0 (omega (arith, messages_are_short (values m) reads.0)) in
+    let refused = writes in
     absurd (omega (arith, refused.0, ap length reads.1))

@@ -1,5 +1,6 @@
 pub mod Faults
 pub mod Making
+pub mod Messages
 pub mod Octets
 pub mod Reading
 pub mod RoundTrip

@@ -5,7 +5,8 @@ use Rattle.frame.specs.Faults.{read_fault_number}
 use Rattle.hello_groups.specs.Groups.{Grouped}
 use Rattle.frame.specs.Octets.{octets, hello_octets, stc_fields, tree_status_fields}
 use Rattle.frame.specs.Rules.{HelloRules, StcRules, TreeStatusRules, WellFormed}
-use Rattle.frame.specs.Values.{StcValues, TreeStatusValues, Values, values, hello_values, stc_values, tree_status_values}
+use Rattle.frame.specs.Values.{StcValues, TreeStatusValues, Values, hello_values, stc_values, tree_status_values}
+use Rattle.frame.specs.Messages.{values}
 use Rattle.field.specs.Wide.{at, wide_at}
 use Rattle.frame.specs.declared.faults.ReadFault.{ReadFault}
 use Rattle.frame.specs.declared.faults.ReadFault.TheVariants.{Short, UnknownKind, WrongSize, BadField, BadGroup}

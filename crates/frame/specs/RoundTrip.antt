@@ -3,8 +3,9 @@ use Rattle.std.specs.Prelude.{◌≡◌, ℕ, ◌≤◌, List, [], ◌∷◌, �
 use Rattle.frame.specs.Octets.{octets}
 use Rattle.frame.specs.Reading.{Reads, Says}
 use Rattle.frame.specs.Rules.{WellFormed}
-use Rattle.frame.specs.Values.{Values, stc, values}
-use Rattle.frame.specs.Writing.{WritesMessage}
+use Rattle.frame.specs.Values.{Values, stc}
+use Rattle.frame.specs.Messages.{values}
+use Rattle.frame.specs.Writing.{Writes}
 use Rattle.frame.specs.declared.faults.ReadFault.{ReadFault}
 use Rattle.frame.specs.declared.faults.WriteFault.{WriteFault}
 use Rattle.frame.specs.declared.messages.Message.{Message}
@@ -16,9 +17,13 @@ WrittenIsRead = (v : Values) → WellFormed v → (r : Result Message ReadFault)
 -- a message that was read is written again as the octets that it was read from
 abbrev pub ReadIsWritten : Type 0
 ReadIsWritten =
-    (xs : List ℕ) (m : Message) → Reads xs (Ok m) → (before now : List ℕ) (r : Result ℕ WriteFault) → WritesMessage (octets (values m)) before now r
+    (xs : List ℕ) (m : Message) → Reads xs (Ok m) → (before now : List ℕ) (r : Result ℕ WriteFault) → Writes (octets (values m)) before now r
     → length xs ≤ length before
     → (r ≡ Ok (length xs)) × (now ≡ xs ++ drop (length xs) before)
+
+-- every message keeps the rules
+abbrev pub MessagesKeepRules : Type 0
+MessagesKeepRules = (m : Message) → WellFormed (values m)
 
 -- no message that keeps the rules is longer than a Hello with sixteen addresses in two groups
 abbrev pub MessagesAreShort : Type 0

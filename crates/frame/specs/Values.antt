@@ -5,8 +5,6 @@ use Rattle.field.specs.Codes.{class_code}
 use Rattle.frame.specs.declared.hellos.HelloFields.{HelloFields}
 use Rattle.frame.specs.declared.stcs.StcFields.{StcFields}
 use Rattle.frame.specs.declared.tree_statuses.TreeStatusFields.{TreeStatusFields}
-use Rattle.frame.specs.declared.messages.Message.{Message}
-use Rattle.frame.specs.declared.messages.Message.TheVariants as message
 
 pub record HelloValues : Type 0 where
   pub sender : ℕ
@@ -75,8 +73,3 @@ tree_status_values t =
       descendants = t.descendants;
       flags = t.flags.0;
     }
-
-abbrev pub values : Message → Values
-values (message.Hello m) = hello (hello_values m.fields)
-values (message.Stc m) = stc (stc_values m.fields)
-values (message.TreeStatus m) = tree_status (tree_status_values m.fields)

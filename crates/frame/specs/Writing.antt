@@ -7,8 +7,3 @@ use Rattle.frame.specs.declared.faults.WriteFault.TheVariants.{OutputTooShort}
 abbrev pub Writes : List ℕ → List ℕ → List ℕ → Result ℕ WriteFault → Type 0
 Writes new before now (Ok n) = (n ≡ length new) × (length new ≤ length before) × (now ≡ new ++ drop (length new) before)
 Writes new before now (Err OutputTooShort) = (length before < length new) × (now ≡ before)
-
--- a message longer than its size octet can say, which no well-formed one is, is never written
-abbrev pub WritesMessage : List ℕ → List ℕ → List ℕ → Result ℕ WriteFault → Type 0
-WritesMessage new before now r =
-    (length new ≤ 255 → Writes new before now r) × (255 < length new → (r ≡ Err OutputTooShort) × (now ≡ before))

@@ -1,9 +1,8 @@
 ghost use Rattle.std.specs.Prelude.{◌≡◌};
-ghost use Rattle.frame.specs.Making.{MakesHello};
-ghost use Rattle.frame.specs.Octets.{octets};
-ghost use Rattle.frame.specs.Reading.{ReadsHello};
-ghost use Rattle.frame.specs.Values.{hello, hello_values};
-ghost use Rattle.frame.specs.Writing.{WritesMessage};
+ghost use Rattle.std.specs.Coded.{le_prop};
+ghost use Rattle.hello_groups.proofs.Grouping.{grouped_prop};
+ghost use Rattle.frame.specs.Rules.{HelloRules};
+ghost use Rattle.frame.specs.Values.{hello_values};
 
 use super::faults::{ReadFault, WriteFault};
 use field::{Address, EnergyClass, Kind, two_octets};
@@ -20,13 +19,20 @@ pub struct HelloFields<'a> {
     pub groups: Groups<'a>,
 }
 
-// Keeps the rules of a Hello, since it is made by `new` alone.
+// A Hello that keeps the rules.
 #[derive(Clone, Copy)]
 pub struct Hello<'a> {
     fields: HelloFields<'a>,
+    ghost rules: { HelloRules (hello_values fields) } by { Prim.hlevel (le_prop, grouped_prop) },
 }
 
 impl<'a> Hello<'a> {
+    ghost use Rattle.frame.specs.Making.{MakesHello};
+    ghost use Rattle.frame.specs.Octets.{octets};
+    ghost use Rattle.frame.specs.Reading.{ReadsHello};
+    ghost use Rattle.frame.specs.Values.{hello};
+    ghost use Rattle.frame.specs.Writing.{Writes};
+
     pub fn new(fields: HelloFields<'a>) -> Result<Hello<'a>, ReadFault>
         ensures { MakesHello (hello_values fields.entry) result }
     {
@@ -49,7 +55,7 @@ impl<'a> Hello<'a> {
     pub(crate) fn read(octets: &'a [u8]) -> Result<Hello<'a>, ReadFault>
         ensures { ReadsHello octets.now result }
     {
-        let [_, _, s1, s0, number, vtime, class, ..] = octets else {
+        let [_, _, s1, s0, number, vtime, class, groups @ ..] = octets else {
             return Err(ReadFault::WrongSize);
         };
         Hello::new(HelloFields {
@@ -57,27 +63,24 @@ impl<'a> Hello<'a> {
             number: *number,
             vtime: *vtime,
             class: EnergyClass::try_from(*class)?,
-            groups: Groups(&octets[7..]),
+            groups: Groups(groups),
         })
     }
 
     // Fills the front of the output.
     pub(crate) fn write(self, out: &mut [u8]) -> Result<usize, WriteFault>
-        ensures { WritesMessage (octets (hello (hello_values self.entry.fields))) out.old out.new result }
+        ensures { Writes (octets (hello (hello_values self.entry.fields))) out.old out.new result }
     {
         let Hello { fields } = self;
         let Groups(groups) = fields.groups;
-        let Ok(size) = u8::try_from(groups.len().saturating_add(7)) else {
-            return Err(WriteFault::OutputTooShort);
-        };
-        let len = size as usize;
+        let len = 7 + groups.len();
         if out.len() < len {
             return Err(WriteFault::OutputTooShort);
         }
         let [s1, s0] = two_octets(fields.sender.0);
         let head = [
             Kind::Hello.into(),
-            size,
+            len as u8,
             s1,
             s0,
             fields.number,

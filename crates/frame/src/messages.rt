@@ -1,7 +1,7 @@
 ghost use Rattle.frame.specs.Octets.{octets};
 ghost use Rattle.frame.specs.Reading.{Reads};
-ghost use Rattle.frame.specs.Values.{values};
-ghost use Rattle.frame.specs.Writing.{WritesMessage};
+ghost use Rattle.frame.specs.Messages.{values};
+ghost use Rattle.frame.specs.Writing.{Writes};
 
 use super::faults::{ReadFault, WriteFault};
 use super::hellos::Hello;
@@ -38,7 +38,7 @@ pub fn read(octets: &[u8]) -> Result<Message<'_>, ReadFault>
 impl Message<'_> {
     // Fills the front of the output with the message; the rest remains.
     pub fn write(self, out: &mut [u8]) -> Result<usize, WriteFault>
-        ensures { WritesMessage (octets (values self.entry)) out.old out.new result }
+        ensures { Writes (octets (values self.entry)) out.old out.new result }
     {
         match self {
             Message::Hello(message) => message.write(out),

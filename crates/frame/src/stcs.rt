@@ -1,7 +1,4 @@
 ghost use Rattle.std.specs.Prelude.{◌≡◌, MatchBool};
-ghost use Rattle.frame.specs.Making.{MakesStc};
-ghost use Rattle.frame.specs.Octets.{octets};
-ghost use Rattle.frame.specs.Reading.{ReadsStc};
 ghost use Rattle.frame.specs.Rules.{StcRules};
 ghost use Rattle.frame.specs.Values.{stc, stc_values};
 
@@ -22,10 +19,11 @@ pub struct StcFields {
     pub tree: TreeSequenceNumber,
 }
 
-// Keeps the rules of an STC, since it is made by `new` alone.
+// An STC that keeps the rules.
 #[derive(Clone, Copy)]
 pub struct Stc {
     fields: StcFields,
+    ghost rules: { StcRules (stc_values fields) },
 }
 
 impl StcFields {
@@ -44,6 +42,10 @@ impl StcFields {
 }
 
 impl Stc {
+    ghost use Rattle.frame.specs.Making.{MakesStc};
+    ghost use Rattle.frame.specs.Octets.{octets};
+    ghost use Rattle.frame.specs.Reading.{ReadsStc};
+
     pub fn new(fields: StcFields) -> Result<Stc, ReadFault>
         ensures { MakesStc (stc_values fields) result }
     {

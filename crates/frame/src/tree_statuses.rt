@@ -1,7 +1,4 @@
 ghost use Rattle.std.specs.Prelude.{◌≡◌, MatchBool};
-ghost use Rattle.frame.specs.Making.{MakesTreeStatus};
-ghost use Rattle.frame.specs.Octets.{octets};
-ghost use Rattle.frame.specs.Reading.{ReadsTreeStatus};
 ghost use Rattle.frame.specs.Rules.{TreeStatusRules};
 ghost use Rattle.frame.specs.Values.{tree_status, tree_status_values};
 
@@ -19,10 +16,11 @@ pub struct TreeStatusFields {
     pub flags: Flags,
 }
 
-// Keeps the rules of a Tree Status, since it is made by `new` alone.
+// A Tree Status that keeps the rules.
 #[derive(Clone, Copy)]
 pub struct TreeStatus {
     fields: TreeStatusFields,
+    ghost rules: { TreeStatusRules (tree_status_values fields) },
 }
 
 impl TreeStatusFields {
@@ -34,6 +32,10 @@ impl TreeStatusFields {
 }
 
 impl TreeStatus {
+    ghost use Rattle.frame.specs.Making.{MakesTreeStatus};
+    ghost use Rattle.frame.specs.Octets.{octets};
+    ghost use Rattle.frame.specs.Reading.{ReadsTreeStatus};
+
     pub fn new(fields: TreeStatusFields) -> Result<TreeStatus, ReadFault>
         ensures { MakesTreeStatus (tree_status_values fields) result }
     {

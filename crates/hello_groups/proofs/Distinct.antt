@@ -1,21 +1,15 @@
 -- The test for addresses that are given and distinct, and what it says.
 use Rattle.std.proofs.Common.{◌≡◌, ℕ, zero, suc, ◌<◌, ◌≤◌, Bool, true, false, not, ◌&&◌, ◌||◌, eqb, List, [], ◌∷◌, ◌++◌, length, get_or, sym, refl, ap, ◌∙◌, arith}
-use Rattle.std.proofs.lemmas.Bool.{and_parts, and_from, or_parts, or_from, not-true, not_from_false, ne_eqb, eqb-false}
+use Rattle.std.proofs.lemmas.Bool.{and_parts, and_from, or_parts, or_from, not-true, not_from_false, ne_eqb, eqb-false, eq-eqb, both_ways}
+use Rattle.std.proofs.lemmas.List.Folds.{list_any-append, list_any_at}
 use Rattle.hello_groups.specs.Splitting.{stands_in, all_new}
 
-or_assoc : (a b c : Bool) → (a || (b || c)) ≡ ((a || b) || c)
-or_assoc true b c = refl
-or_assoc false b c = refl
-
 pub stands_append : (x : ℕ) (xs ys : List ℕ) → stands_in x (xs ++ ys) ≡ (stands_in x xs || stands_in x ys)
-stands_append x [] ys = refl
-stands_append x (y ∷ xs) ys = ap (λ b. eqb y x || b) (stands_append x xs ys) ∙ or_assoc (eqb y x) (stands_in x xs) (stands_in x ys)
+stands_append x = list_any-append (λ y. eqb y x)
 
 -- an address that does not stand in a list differs from each of it
 pub not_standing : (x : ℕ) (xs : List ℕ) → stands_in x xs ≡ false → (i : ℕ) → i < length xs → x ≡ get_or xs i 0 → ⊥
-not_standing x [] h i l = absurd (omega arith)
-not_standing x (y ∷ xs) h zero l = λ e. eqb-false y x (or_parts (eqb y x) (stands_in x xs) h).0 (sym e)
-not_standing x (y ∷ xs) h (suc i) l = not_standing x xs (or_parts (eqb y x) (stands_in x xs) h).1 i (omega arith)
+not_standing x xs h i l e = both_ways (stands_in x xs) h (list_any_at (λ y. eqb y x) xs i 0 l (eq-eqb _ _ (sym e)))
 
 pub none_standing : (x : ℕ) (xs : List ℕ) → ((i : ℕ) → i < length xs → x ≡ get_or xs i 0 → ⊥) → stands_in x xs ≡ false
 none_standing x [] h = refl

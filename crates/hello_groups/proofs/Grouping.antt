@@ -4,8 +4,9 @@ use Rattle.std.proofs.lemmas.List.{append-nil, take_at, drop_at, take-append-dro
 use Rattle.std.proofs.lemmas.Bool.{and_parts, and_from, and_right, cond-true, cond-false, cond_both, le-leb, eq-eqb, leb-true, eqb-true, cases_Bool, both_ways}
 use Rattle.hello_groups.proofs.Distinct.{new_append, new_given, new_distinct, are_new}
 use Rattle.field.proofs.Wides.{Octets, octets_take, octets_drop, first_two, numbers_wides, length_wides, wides_numbers, length_numbers}
-use Rattle.hello_groups.specs.Groups.{group, groups, Grouped}
-use Rattle.hello_groups.specs.Splitting.{is_size, begins, front, after, sym_octets, asym_octets, left_over, sym_in, asym_in, all_new}
+use Rattle.std.specs.Coded.{le_prop, Coded-set, coded_list, coded_ℕ}
+use Rattle.hello_groups.specs.Groups.{Listable, group, groups, Grouped}
+use Rattle.hello_groups.specs.Splitting.{is_size, begins, front, after, left_over, sym_in, asym_in, all_new}
 use Rattle.field.specs.Wide.{numbers, wides, at}
 
 -- ---- from lists to octets
@@ -68,10 +69,10 @@ module _ (s a : List ℕ) (few : length (s ++ a) ≤ 16) where
 
 -- the tests that octets are groups, over the parts that they are split into
 unfoldable pub tests : List ℕ → List ℕ → List ℕ → Bool
-tests s a rest = eqb (length rest) 0 && (leb (length s + length a) 32 && (all_new (numbers s) (numbers a) && all_new (numbers a) []))
+tests s a rest = eqb (length rest) 0 && (leb (length (s ++ a)) 16 && (all_new s a && all_new a []))
 
-abbrev tested : List ℕ → Bool
-tested xs = tests (sym_octets xs) (asym_octets xs) (left_over xs)
+abbrev pub tested : List ℕ → Bool
+tested xs = tests (sym_in xs) (asym_in xs) (left_over xs)
 
 -- octets that are groups pass them
 tested_from : (xs : List ℕ) → Grouped xs → tested xs ≡ true
@@ -82,14 +83,12 @@ tested_from xs g =
     let rules = g.2 in
     let few = rules.few in
     let both = and_parts (all_new s a) (all_new a []) (sym (new_append s a) ∙ are_new (s ++ a) rules.given rules.distinct) in
-    let count : leb (length (wides s) + length (wides a)) 32 ≡ true = le-leb _ _ (omega (arith, length_wides s, length_wides a, length-append s a)) in
-    let first : all_new (numbers (wides s)) (numbers (wides a)) ≡ true = rw (numbers_wides s, numbers_wides a) both.0 in
-    let second : all_new (numbers (wides a)) [] ≡ true = rw (numbers_wides a) both.1 in
-    let all : tests (wides s) (wides a) [] ≡ true = rw (count, first, second) refl in
+    let count : leb (length (s ++ a)) 16 ≡ true = le-leb _ _ few in
+    let all : tests s a [] ≡ true = rw (count, both.0, both.1) refl in
     ap tested (sym g.3)
-    ∙ ap (λ l. tests l (asym_octets (groups s a)) (left_over (groups s a))) (front_sym s a few)
-    ∙ ap (λ l. tests (wides s) l (left_over (groups s a))) (front_asym s a few)
-    ∙ ap (tests (wides s) (wides a)) (after_asym s a few)
+    ∙ ap (λ l. tests l (asym_in (groups s a)) (left_over (groups s a))) (sym_in_groups s a few)
+    ∙ ap (λ l. tests s l (left_over (groups s a))) (asym_in_groups s a few)
+    ∙ ap (tests s a) (after_asym s a few)
     ∙ all
 
 -- ---- from octets to lists
@@ -153,34 +152,48 @@ rejoins code xs octets =
 after_octets : (code : ℕ) (xs : List ℕ) → Octets xs → Octets (after code xs)
 after_octets code xs octets = cond_both (begins code xs) _ _ Octets (λ _. octets_drop (at xs 1) xs octets) (λ _. octets)
 
--- the addresses are half as many as their octets
-half : (code : ℕ) (xs : List ℕ) → length (front code xs) ≡ 2 * length (numbers (front code xs))
-half code xs =
-    elim (cases_Bool (begins code xs)) [
-      | inl whole ↦ let n = front_length code xs whole in omega (arith, length_numbers ((at xs 1 - 2) / 2) (front code xs) n)
-      | inr none ↦ let none_in : front code xs ≡ [] = cond-false (begins code xs) _ _ none in rw none_in
-    ]
-
 -- octets that pass the tests are groups
 tested_says : (xs : List ℕ) → Octets xs → tested xs ≡ true → Grouped xs
-unfolding tests
+unfolding tests sym_in asym_in
 tested_says xs octets test =
-    let s = numbers (sym_octets xs) in
-    let a = numbers (asym_octets xs) in
+    let s = sym_in xs in
+    let a = asym_in xs in
     let empty = length (left_over xs) in
-    let count = length (sym_octets xs) + length (asym_octets xs) in
-    let p = and_parts (eqb empty 0) (leb count 32 && (all_new s a && all_new a [])) test in
-    let q = and_parts (leb count 32) (all_new s a && all_new a []) p.1 in
+    let count = length (s ++ a) in
+    let p = and_parts (eqb empty 0) (leb count 16 && (all_new s a && all_new a [])) test in
+    let q = and_parts (leb count 16) (all_new s a && all_new a []) p.1 in
     let new : all_new (s ++ a) [] ≡ true = new_append s a ∙ q.1 in
-    let few : length (s ++ a) ≤ 16 = omega (arith, leb-true count 32 q.0, half 1 xs, half 2 (after 1 xs), length-append s a) in
     let none : left_over xs ≡ [] = length_none (left_over xs) (eqb-true empty 0 p.0) in
     let second : group 2 a ≡ after 1 xs =
     sym (append-nil (group 2 a)) ∙ ap (λ l. group 2 a ++ l) (sym none) ∙ rejoins 2 (after 1 xs) (after_octets 1 xs octets) in
-    (s, a, record { few = few; given = new_given (s ++ a) new; distinct = new_distinct (s ++ a) new }, ap (λ l. group 1 s ++ l) second ∙ rejoins 1 xs octets)
+    (s, a, record { few = leb-true count 16 q.0; given = new_given (s ++ a) new; distinct = new_distinct (s ++ a) new }, ap (λ l. group 1 s ++ l) second ∙ rejoins 1 xs octets)
 
 -- so the tests decide whether octets are groups
-pub decides : (xs s a rest : List ℕ) → Octets xs → s ≡ sym_octets xs → a ≡ asym_octets xs → rest ≡ left_over xs → (r : Bool) → r ≡ tests s a rest → MatchBool r (Grouped xs) (Grouped xs → ⊥)
-decides xs s a rest octets es ea er r e = go r (e ∙ cc) where
-  go : (r : Bool) → r ≡ tested xs → MatchBool r (Grouped xs) (Grouped xs → ⊥)
-  go true is = tested_says xs octets (sym is)
-  go false is = λ g. both_ways (tested xs) (sym is) (tested_from xs g)
+pub decides : (xs : List ℕ) → Octets xs → (r : Bool) → r ≡ tested xs → MatchBool r (Grouped xs) (Grouped xs → ⊥)
+decides xs octets true is = tested_says xs octets (sym is)
+decides xs octets false is = λ g. both_ways (tested xs) (sym is) (tested_from xs g)
+
+-- ---- octets are the groups of one pair of lists
+
+module _ (xs s a : List ℕ) where
+  abbrev Lists : Type 0
+  Lists = Listable (s ++ a) × (groups s a ≡ xs)
+
+  lists_prop : IsProp Lists
+  lists_prop = hlevel (le_prop, Coded-set (coded_list coded_ℕ))
+
+  abbrev grouping : Lists → Grouped xs
+  grouping p = (s, a, p.0, p.1)
+
+same_grouping : (xs s a : List ℕ) (p : Lists xs s a) (s' : List ℕ) → s ≡ s' → (a' : List ℕ) → a ≡ a' → (p' : Lists xs s' a') → grouping xs s a p ≡ grouping xs s' a' p'
+same_grouping xs s a p s' es a' ea =
+    subst (λ t. (q : Lists xs t a') → grouping xs s a p ≡ grouping xs t a' q) es
+    (subst (λ b. (q : Lists xs s b) → grouping xs s a p ≡ grouping xs s b q) ea (λ q. ap (grouping xs s a) (lists_prop xs s a p q)))
+
+pub grouped_prop : (xs : List ℕ) → IsProp (Grouped xs)
+grouped_prop xs g h =
+    let few = g.2.few in
+    let few' = h.2.few in
+    let same = g.3 ∙ sym h.3 in
+    same_grouping xs g.0 g.1 (g.2, g.3) h.0 (sym (sym_in_groups g.0 g.1 few) ∙ ap sym_in same ∙ sym_in_groups h.0 h.1 few')
+    h.1 (sym (asym_in_groups g.0 g.1 few) ∙ ap asym_in same ∙ asym_in_groups h.0 h.1 few') (h.2, h.3)

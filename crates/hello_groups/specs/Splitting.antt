@@ -1,5 +1,6 @@
 -- Octets taken apart into the addresses of each code, whatever the octets are.
-use Rattle.std.specs.Prelude.{ℕ, ◌-◌, ◌%◌, Bool, true, false, cond, not, ◌&&◌, ◌||◌, List, [], ◌∷◌, length, take, drop, ◌==◌, nat_le}
+use Rattle.std.specs.Prelude.{ℕ, ◌-◌, ◌%◌, Bool, true, cond, not, ◌&&◌, ◌||◌, List, [], ◌∷◌, length, take, drop, ◌==◌, nat_le}
+use Rattle.std.specs.List.{list_any}
 use Rattle.field.specs.Wide.{numbers, at}
 
 -- the size of a group: whole addresses, one or more, within the octets at hand
@@ -35,8 +36,7 @@ unfoldable pub asym_in : List ℕ → List ℕ
 asym_in xs = numbers (asym_octets xs)
 
 abbrev pub stands_in : ℕ → List ℕ → Bool
-stands_in a [] = false
-stands_in a (x ∷ xs) = x == a || stands_in a xs
+stands_in a xs = list_any (λ x. x == a) xs
 
 -- none of them is 0, stands again further on, or stands among the others
 abbrev pub all_new : List ℕ → List ℕ → Bool
