@@ -1,5 +1,5 @@
 -- The octets of a record.
-use Rattle.std.specs.Prelude.{ℕ, Bool, cond, List, [], ◌∷◌, ◌++◌, length}
+use Rattle.std.specs.Prelude.{◌≡◌, ℕ, Bool, cond, List, [], ◌∷◌, ◌++◌, length}
 use Rattle.field.specs.Addresses.{number_or_0}
 use Rattle.field.specs.Codes.{class_code}
 use Rattle.field.specs.Wide.{wide, long}
@@ -22,6 +22,10 @@ tree_octets row =
 abbrev pub joined : {X : Type 0} → (X → List ℕ) → List X → List ℕ
 joined octets [] = []
 joined octets (row ∷ rows) = octets row ++ joined octets rows
+
+-- the octets begin with so many rows, and these stand behind them
+abbrev pub BeginsWith : {X : Type 0} → (X → List ℕ) → List ℕ → ℕ → List X → List ℕ → Type 0
+BeginsWith octets all count rows behind = (joined octets rows ++ behind ≡ all) × (length rows ≡ count)
 
 -- the head, and what follows it
 abbrev pub headed : State → List ℕ → List ℕ

@@ -22,7 +22,7 @@ returns-in_err-trees c =
     let ten : length head ≡ 10 = search rules in
     let whole = e ∙ cut 10 c.args.octets.now head behind parts.0 parts.1 in
     let near = c.in_ok-neighbours.ensures in
-    c.in_err-trees.ensures (state r).trees [] (trees_many (state r) head behind ten whole) (rows_few r.trees) (append-nil _ ∙ trees_left (state r) head behind ten whole (rows c.in_ok-neighbours.neighbours) _ near.0 near.1))
+    c.in_err-trees.ensures (state r).trees [] (rows_few r.trees) (append-nil _ ∙ trees_left (state r) head behind ten whole (rows c.in_ok-neighbours.neighbours) _ near.0.0 near.0.1, trees_many (state r) head behind ten whole))
 
 pub returns-then-not-is_empty : goal.returns-then-not-is_empty
 returns-then-not-is_empty c r e =
@@ -33,7 +33,7 @@ returns-then-not-is_empty c r e =
     let whole = e ∙ cut 10 c.args.octets.now head behind parts.0 parts.1 in
     let near = c.in_ok-neighbours.ensures in
     let far = c.in_ok-trees.ensures in
-    let none = none_left (state r) head behind ten whole (rows c.in_ok-neighbours.neighbours) _ near.0 near.1 (rows c.in_ok-trees.trees) c.in_ok-trees.rest.now far.0 far.1 in
+    let none = none_left (state r) head behind ten whole (rows c.in_ok-neighbours.neighbours) _ near.0.0 near.0.1 (rows c.in_ok-trees.trees) c.in_ok-trees.rest.now far.0.0 far.0.1 in
     let zero = ap length none in
     search rules
 
@@ -51,5 +51,5 @@ returns c =
     let class : class_code c.in_ok-class.class ≡ at head 2 = search rules in
     let latest : c.from_be_bytes-2.result ≡ long_at head 4 = omega (arith, c.from_be_bytes-2.ensures) in
     let s : State = record { address = c.from_be_bytes.result; class = c.in_ok-class.class; number = at head 3; latest = c.from_be_bytes-2.result; neighbours = rows c.in_ok-neighbours.neighbours; trees = rows c.in_ok-trees.trees } in
-    let is = card_is head behind octets ten s c.from_be_bytes.ensures class refl latest near.1 far.1 (ap (λ l. joined neighbour_octets (rows c.in_ok-neighbours.neighbours) ++ l) (sym (append-nil _) ∙ ap (λ l. joined tree_octets (rows c.in_ok-trees.trees) ++ l) (sym none) ∙ far.0) ∙ near.0) in
-    rw c.ok-2.ensures.value (reads_made c.args.octets.now s (is ∙ sym whole) far.2 c.new.result c.new.ensures)
+    let is = card_is head behind octets ten s c.from_be_bytes.ensures class refl latest near.0.1 far.0.1 (ap (λ l. joined neighbour_octets (rows c.in_ok-neighbours.neighbours) ++ l) (sym (append-nil _) ∙ ap (λ l. joined tree_octets (rows c.in_ok-trees.trees) ++ l) (sym none) ∙ far.0.0) ∙ near.0.0) in
+    rw c.ok-2.ensures.value (reads_made c.args.octets.now s (is ∙ sym whole) far.1 c.new.result c.new.ensures)

@@ -13,15 +13,15 @@ split_first_chunk-requires g c = omega (arith, g.met.R.CardRow.fits)
 pub returns-in_err-row : goal.returns-in_err-row
 returns-in_err-row g c =
     rw c.from_residual.ensures
-    (λ xs rest n few e.
-    let next = joined_next g.R.CardRow.written g.row.W g.met.R.CardRow.sized (rows c.loop.all) xs c.loop.left.now rest (e ∙ sym c.loop.invariant.split) (omega arith) in
+    (λ xs rest few begins.
+    let next = joined_next g.R.CardRow.written g.row.W g.met.R.CardRow.sized (rows c.loop.all) xs c.loop.left.now rest (begins.0 ∙ sym c.loop.invariant.split) (omega arith) in
     omega (arith, next.2, c.in_err-row.ensures.cases))
 
 pub returns-in_err-read : goal.returns-in_err-read
 returns-in_err-read g c =
     rw c.from_residual-in_err-read.ensures
-    (λ xs rest n few e.
-    let next = joined_next g.R.CardRow.written g.row.W g.met.R.CardRow.sized (rows c.loop.all) xs c.loop.left.now rest (e ∙ sym c.loop.invariant.split) (omega arith) in
+    (λ xs rest few begins.
+    let next = joined_next g.R.CardRow.written g.row.W g.met.R.CardRow.sized (rows c.loop.all) xs c.loop.left.now rest (begins.0 ∙ sym c.loop.invariant.split) (omega arith) in
     c.in_err-read.ensures next.0 (next.1 ∙ sym c.in_ok-row.ensures.cases.0))
 
 pub loop-preserved : goal.loop-preserved
