@@ -1,10 +1,10 @@
 use Rattle.std.proofs.Common.{◌≡◌, cond, [], ◌∷◌, ◌++◌, length, sym, ap, ◌∙◌, ap₂, arith, length-append, take-append-drop}
-use Rattle.std.proofs.lemmas.List.{append_assoc}
+use Rattle.std.proofs.lemmas.List.{append_assoc, flat_map_more}
 use Rattle.table.proofs.Every.{every_push}
 use Rattle.table.specs.Filters.{every}
 use Rattle.table.specs.Rows.{rows}
 use Rattle.card.specs.Octets.{joined}
-use Rattle.card.proofs.Joined.{joined_next, joined_push}
+use Rattle.card.proofs.Joined.{joined_next}
 use Rattle.card.proofs.listed.read_rows.Goals as goal
 
 pub split_first_chunk-requires : goal.split_first_chunk-requires
@@ -35,7 +35,7 @@ loop-preserved g c =
     let whole : w x ++ c.in_ok-row.rest.now ≡ left = ap₂ (λ a b. a ++ b) (c.in_ok-read.ensures.0 ∙ row.0) row.1 ∙ take-append-drop g.row.W left in
     record {
       split = ap (λ l. joined w l ++ c.in_ok-row.rest.now) now
-          ∙ ap (λ l. l ++ c.in_ok-row.rest.now) (joined_push w had x)
+          ∙ ap (λ l. l ++ c.in_ok-row.rest.now) (sym (flat_map_more w [] had x))
           ∙ append_assoc (joined w had) (w x) c.in_ok-row.rest.now
           ∙ ap (λ l. joined w had ++ l) whole
           ∙ c.loop.invariant.split;
