@@ -1,21 +1,13 @@
 -- Rows of one width, one after the other.
 use Rattle.std.proofs.Common.{◌≡◌, ℕ, ◌+◌, ◌*◌, ◌<◌, ◌≤◌, Bool, true, List, [], ◌∷◌, ◌++◌, length, get_or, take, drop, sym, refl, ap, ◌∙◌, ap₂, add-mul, one-mul, zero-mul, arith, length-append, length-take-le, mul-le-mul_left}
-use Rattle.std.proofs.lemmas.List.{append_assoc, append-nil, take_more, take_at, drop_at}
+use Rattle.std.proofs.lemmas.List.{append_assoc, flat_map_more, take_more, take_at, drop_at}
 use Rattle.std.proofs.lemmas.Bool.{and_parts}
 use Rattle.std.specs.List.{list_all}
 use Rattle.card.specs.Octets.{joined}
 
 module _ {X : Type 0} (written : X → List ℕ) where
-  joined_append : (xs ys : List X) → joined written (xs ++ ys) ≡ joined written xs ++ joined written ys
-  joined_append [] ys = refl
-  joined_append (x ∷ xs) ys = ap (λ l. written x ++ l) (joined_append xs ys) ∙ sym (append_assoc (written x) (joined written xs) (joined written ys))
-
-  pub joined_push : (xs : List X) (x : X) → joined written (xs ++ x ∷ []) ≡ joined written xs ++ written x
-  joined_push xs x = joined_append xs (x ∷ []) ∙ ap (λ l. joined written xs ++ l) (append-nil (written x))
-
   pub joined_more : (xs : List X) (i : ℕ) (x : X) → i < length xs → x ≡ get_or xs i x → joined written (take (i + 1) xs) ≡ joined written (take i xs) ++ written x
-  joined_more xs i x lt e =
-      ap (joined written) (take_more xs i x lt) ∙ ap (λ y. joined written (take i xs ++ y ∷ [])) (sym e) ∙ joined_push (take i xs) x
+  joined_more xs i x lt e = ap (joined written) (take_more xs i x lt) ∙ ap (λ y. joined written (take i xs ++ y ∷ [])) (sym e) ∙ sym (flat_map_more written [] (take i xs) x)
 
   module _ (wide : ℕ) (sized : (x : X) → length (written x) ≡ wide) where
     pub joined_length : (xs : List X) → length (joined written xs) ≡ length xs * wide

@@ -1,5 +1,5 @@
 -- Octets written one after the other are written at once.
-use Rattle.std.proofs.Common.{◌≡◌, ℕ, ◌+◌, ◌≤◌, List, [], ◌++◌, length, take, drop, sym, refl, ap, ◌∙◌, ap₂, add-zero, arith, length-append, take-append-drop, append-nil}
+use Rattle.std.proofs.Common.{◌≡◌, ℕ, ◌+◌, ◌≤◌, List, ◌++◌, length, take, drop, sym, refl, ap, ◌∙◌, ap₂, arith, length-append, append-nil}
 use borrow.Rule.Slice.PartMut.{put_mid}
 use Rattle.std.proofs.lemmas.List.{append_assoc, drop-drop, drop_all}
 use Rattle.std.proofs.lemmas.Slice.{take-put_mid, drop-put_mid}
@@ -7,9 +7,6 @@ use Rattle.card.specs.Placing.{placed}
 
 pub placed_mid : (out : List ℕ) (at k : ℕ) (octets : List ℕ) → k ≡ length octets → put_mid at k out octets ≡ placed out at octets
 placed_mid out at k octets e = ap (λ l. take at out ++ (octets ++ l)) (drop-drop k at out ∙ ap (λ n. drop (at + n) out) e)
-
-pub placed_none : (out : List ℕ) (at : ℕ) → placed out at [] ≡ out
-placed_none out at = ap (λ n. take at out ++ drop n out) (add-zero at) ∙ take-append-drop at out
 
 pub placed_more : (out : List ℕ) (at : ℕ) (xs ys : List ℕ) → at + length xs ≤ length out → placed (placed out at xs) (at + length xs) ys ≡ placed out at (xs ++ ys)
 placed_more out at xs ys fits =

@@ -1,5 +1,6 @@
 -- The octets of a record.
-use Rattle.std.specs.Prelude.{ℕ, Bool, cond, List, [], ◌∷◌, ◌++◌, length}
+use Rattle.std.specs.Prelude.{◌≡◌, ℕ, Bool, cond, List, [], ◌∷◌, ◌++◌, length}
+use Rattle.std.specs.List.{flat_map}
 use Rattle.field.specs.Addresses.{number_or_0}
 use Rattle.field.specs.Codes.{class_code}
 use Rattle.field.specs.Wide.{wide, long}
@@ -20,8 +21,11 @@ tree_octets row =
 
 -- the octets of each row, one row after the other
 abbrev pub joined : {X : Type 0} → (X → List ℕ) → List X → List ℕ
-joined octets [] = []
-joined octets (row ∷ rows) = octets row ++ joined octets rows
+joined octets rows = flat_map octets rows
+
+-- the octets begin with so many rows, and these stand behind them
+abbrev pub BeginsWith : {X : Type 0} → (X → List ℕ) → List ℕ → ℕ → List X → List ℕ → Type 0
+BeginsWith octets all count rows behind = (joined octets rows ++ behind ≡ all) × (length rows ≡ count)
 
 -- the head, and what follows it
 abbrev pub headed : State → List ℕ → List ℕ

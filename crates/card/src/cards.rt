@@ -6,14 +6,13 @@ ghost use Rattle.record.specs.Records.{state};
 ghost use Rattle.record.specs.declared.records.Record.{Record};
 
 use crate::listed::{put_rows, read_rows};
-use crate::neighbour_rows::NEIGHBOUR;
-use crate::tree_rows::TREE;
+use crate::neighbour_rows::NEIGHBOUR_OCTETS;
+use crate::tree_rows::TREE_OCTETS;
 use field::{Address, EnergyClass, four_octets, two_octets};
 use frame::WriteFault;
 use record::{NeighbourRow, Record, RecordFault, TreeRow};
 
-// The octets before the rows.
-const HEAD: usize = 10;
+const HEAD_OCTETS: usize = 10;
 
 // The record whose card the octets are.
 pub fn read(octets: &[u8]) -> Result<Record, RecordFault>
@@ -25,11 +24,11 @@ pub fn read(octets: &[u8]) -> Result<Record, RecordFault>
 fn record_of(octets: &[u8]) -> Option<Record>
     ensures { MatchOption result ((r : Record) → card (state r) ≢ octets.now) (λ r. card (state r) ≡ octets.now) }
 {
-    let (head, rows) = octets.split_first_chunk::<HEAD>()?;
-    let [a1, a0, class, number, l3, l2, l1, l0, near, far] = *head;
+    let (head, rows) = octets.split_first_chunk::<HEAD_OCTETS>()?;
+    let [a1, a0, class, number, l3, l2, l1, l0, neighbours, trees] = *head;
     let class = EnergyClass::try_from(class).ok()?;
-    let (neighbours, left) = read_rows(near, rows, NeighbourRow::FILLER)?;
-    let (trees, rest) = read_rows(far, left, TreeRow::FILLER)?;
+    let (neighbours, left) = read_rows(neighbours, rows, NeighbourRow::FILLER)?;
+    let (trees, rest) = read_rows(trees, left, TreeRow::FILLER)?;
     if !rest.is_empty() {
         return None;
     }
@@ -44,7 +43,7 @@ fn record_of(octets: &[u8]) -> Option<Record>
     .ok()
 }
 
-fn head_of(held: &Record) -> [u8; HEAD]
+fn head_of(held: &Record) -> [u8; HEAD_OCTETS]
     ensures { result ≡ headed (state held.now) [] }
 {
     let [a1, a0] = two_octets(held.address.0);
@@ -73,12 +72,12 @@ pub fn write(held: &Record, out: &mut [u8]) -> Result<usize, WriteFault>
 {
     let neighbours = held.neighbours.as_slice();
     let trees = held.trees.as_slice();
-    let behind = neighbours.len() * NEIGHBOUR;
-    let len = HEAD + behind + trees.len() * TREE;
+    let behind = neighbours.len() * NEIGHBOUR_OCTETS;
+    let len = HEAD_OCTETS + behind + trees.len() * TREE_OCTETS;
     if out.len() < len {
         return Err(WriteFault::OutputTooShort);
     }
-    let (head, rows) = out.split_at_mut(HEAD);
+    let (head, rows) = out.split_at_mut(HEAD_OCTETS);
     let (near, far) = rows.split_at_mut(behind);
     head.copy_from_slice(&head_of(held));
     put_rows(neighbours, near);

@@ -1,5 +1,5 @@
 ghost use Rattle.std.specs.Prelude.{◌≡◌, ℕ, ◌<◌, ◌≤◌, ◌^◌, Bool, true, List, ◌++◌, length, MatchOption, ◌≢◌};
-ghost use Rattle.card.specs.Octets.{joined};
+ghost use Rattle.card.specs.Octets.{joined, BeginsWith};
 ghost use Rattle.card.specs.Placing.{placed};
 ghost use Rattle.std.specs.List.{list_all};
 ghost use Rattle.table.specs.Rows.{rows};
@@ -25,13 +25,13 @@ pub trait CardRow<const W: usize>: Copy {
     ghost fits: { W < 2 ^ 63 };
 }
 
-// So many rows from the front of the octets, at most N, and what is left.
+// So many rows from the front of the octets, at most N of them, and the octets behind them.
 pub fn read_rows<R: CardRow<W>, const W: usize, const N: usize>(
     count: u8,
     octets: &[u8],
     filler: R,
 ) -> Option<(Table<R, N>, &[u8])>
-    ensures { MatchOption result ((xs : List R) (rest : List ℕ) → length xs ≡ count → length xs ≤ N → joined R.CardRow.written xs ++ rest ≢ octets.now) (λ p. (joined R.CardRow.written (rows p.0) ++ p.1.now ≡ octets.now) × (length (rows p.0) ≡ count) × (list_all R.CardRow.plain (rows p.0) ≡ true)) }
+    ensures { MatchOption result ((xs : List R) (behind : _) → length xs ≤ N → BeginsWith R.CardRow.written octets.now count xs behind → ⊥) (λ p. BeginsWith R.CardRow.written octets.now count (rows p.0) p.1.now × (list_all R.CardRow.plain (rows p.0) ≡ true)) }
 {
     let mut all = Table::new(filler);
     let mut left = octets;
@@ -45,6 +45,7 @@ pub fn read_rows<R: CardRow<W>, const W: usize, const N: usize>(
 
 // Fills the front of the output with the rows; the rest remains. By places, since no proof knows what is left by a write
 // through `chunks_exact_mut`, or through a `&mut` that a loop moves on.
+#[tactic(auto, using(crate::proofs::Joined::joined_part))]
 pub fn put_rows<R: CardRow<W>, const W: usize>(all: &[R], out: &mut [u8])
     requires { length (joined R.CardRow.written all.now) ≤ length out.old }
     ensures { out.new ≡ placed out.old 0 (joined R.CardRow.written all.now) }

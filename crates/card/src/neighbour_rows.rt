@@ -6,10 +6,9 @@ use crate::listed::CardRow;
 use field::{Address, EnergyClass, four_octets, two_octets};
 use record::NeighbourRow;
 
-// The octets of a neighbour row.
-pub const NEIGHBOUR: usize = 12;
+pub const NEIGHBOUR_OCTETS: usize = 12;
 
-impl CardRow<NEIGHBOUR> for NeighbourRow {
+impl CardRow<NEIGHBOUR_OCTETS> for NeighbourRow {
     ghost written = { neighbour_octets };
 
     ghost plain = { λ _. true };
@@ -18,7 +17,7 @@ impl CardRow<NEIGHBOUR> for NeighbourRow {
 
     ghost fits = { Prim.search rules };
 
-    fn octets(&self) -> [u8; NEIGHBOUR] {
+    fn octets(&self) -> [u8; NEIGHBOUR_OCTETS] {
         let [a1, a0] = two_octets(self.address.0);
         let [s3, s2, s1, s0] = four_octets(self.sym_until);
         let [h3, h2, h1, h0] = four_octets(self.heard_until);
@@ -26,7 +25,7 @@ impl CardRow<NEIGHBOUR> for NeighbourRow {
         [a1, a0, s3, s2, s1, s0, h3, h2, h1, h0, class, self.power]
     }
 
-    fn read(octets: &[u8; NEIGHBOUR]) -> Option<NeighbourRow> {
+    fn read(octets: &[u8; NEIGHBOUR_OCTETS]) -> Option<NeighbourRow> {
         let [a1, a0, s3, s2, s1, s0, h3, h2, h1, h0, class, power] = *octets;
         let class = EnergyClass::try_from(class).ok()?;
         Some(NeighbourRow {

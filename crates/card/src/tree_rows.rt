@@ -7,8 +7,7 @@ use crate::listed::CardRow;
 use field::{Address, Flags, TreeSequenceNumber, WaveNumber, four_octets, two_octets};
 use record::TreeRow;
 
-// The octets of a tree row.
-pub const TREE: usize = 17;
+pub const TREE_OCTETS: usize = 17;
 
 fn read_bit(octet: u8) -> Option<bool>
     ensures { MatchOption result ((b : _) → bit b ≢ octet) (λ b. bit b ≡ octet) }
@@ -20,7 +19,7 @@ fn read_bit(octet: u8) -> Option<bool>
     }
 }
 
-impl CardRow<TREE> for TreeRow {
+impl CardRow<TREE_OCTETS> for TreeRow {
     ghost written = { tree_octets };
 
     ghost plain = { λ row. named row.parent };
@@ -29,7 +28,7 @@ impl CardRow<TREE> for TreeRow {
 
     ghost fits = { Prim.search rules };
 
-    fn octets(&self) -> [u8; TREE] {
+    fn octets(&self) -> [u8; TREE_OCTETS] {
         let [r1, r0] = two_octets(self.root.0);
         let [w1, w0] = two_octets(self.wave.0);
         let [c1, c0] = two_octets(self.cost);
@@ -57,7 +56,7 @@ impl CardRow<TREE> for TreeRow {
         ]
     }
 
-    fn read(octets: &[u8; TREE]) -> Option<TreeRow> {
+    fn read(octets: &[u8; TREE_OCTETS]) -> Option<TreeRow> {
         let [
             r1,
             r0,
@@ -71,8 +70,8 @@ impl CardRow<TREE> for TreeRow {
             v2,
             v1,
             v0,
-            ttl,
-            flags,
+            life,
+            bits,
             t1,
             t0,
             owed,
@@ -83,8 +82,8 @@ impl CardRow<TREE> for TreeRow {
             cost: u16::from_be_bytes([c1, c0]),
             parent: Address::try_from(u16::from_be_bytes([p1, p0])).ok(),
             valid_until: u32::from_be_bytes([v3, v2, v1, v0]),
-            ttl,
-            flags: Flags(flags),
+            ttl: life,
+            flags: Flags(bits),
             tree: TreeSequenceNumber(u16::from_be_bytes([t1, t0])),
             owed: read_bit(owed)?,
         })

@@ -37,7 +37,7 @@ impl CostLaw for EnergyLaw {
     #[tactic(auto, using(crate::proofs::Weights::around_few))]
     fn measure(&self, listener: &Listener<'_>, _sender: Address) -> u16 {
         u16::from(listener.settings.lambda) * weight_of(listener.class)
-            + u16::from(listener.settings.beta) * weight_around(listener)
+            + u16::from(listener.settings.beta) * listener.weight_around()
     }
 
     fn extend(&self, cost: Cost, measure: u16) -> Option<Cost> {
@@ -56,15 +56,16 @@ pub fn weight_of(class: EnergyClass) -> u16
     }
 }
 
-// What the symmetric neighbours weigh together.
-fn weight_around(listener: &Listener<'_>) -> u16
-    ensures { result ≡ weight_around (rows listener.now.neighbours.now) listener.now.time }
-{
-    listener
-        .neighbours
-        .as_slice()
-        .iter()
-        .filter(|row| row.is_symmetric(listener.time))
-        .map(|row| weight_of(row.class))
-        .sum()
+impl Listener<'_> {
+    // What the symmetric neighbours weigh together.
+    fn weight_around(&self) -> u16
+        ensures { result ≡ weight_around (rows self.now.neighbours.now) self.now.time }
+    {
+        self.neighbours
+            .as_slice()
+            .iter()
+            .filter(|row| row.is_symmetric(self.time))
+            .map(|row| weight_of(row.class))
+            .sum()
+    }
 }

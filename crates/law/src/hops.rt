@@ -8,9 +8,11 @@ ghost use Rattle.std.proofs.lemmas.Bool.Decides.{nat_tests};
 
 use crate::cost_law::CostLaw;
 use crate::listeners::Listener;
-use field::{Address, Cost, two_octets};
+use field::{Address, Cost};
 use record::Neighbours;
 use table::find;
+
+const MOST_HOPS: Cost = 255;
 
 // Fewer hops cost less; of as many hops, the way whose weakest link is stronger does.
 #[derive(Clone, Copy)]
@@ -40,9 +42,12 @@ impl CostLaw for HopLaw {
     }
 
     fn extend(&self, cost: Cost, power: u8) -> Option<Cost> {
-        let [hops, weakness] = two_octets(cost);
-        let hops = hops.checked_add(1)?;
-        Some(Cost::from_be_bytes([hops, weakness.max(255 - power)]))
+        let hops = cost / 256;
+        if hops >= MOST_HOPS {
+            return None;
+        }
+        let weakness = (cost % 256).max(Cost::from(255 - power));
+        Some((hops + 1) * 256 + weakness)
     }
 }
 

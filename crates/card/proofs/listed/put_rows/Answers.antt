@@ -5,15 +5,6 @@ use Rattle.card.proofs.Joined.{joined_more, joined_part}
 use Rattle.card.proofs.Placed.{placed_mid, placed_more}
 use Rattle.card.proofs.listed.put_rows.Goals as goal
 
-pub overflow_mul-at : goal.overflow_mul-at
-overflow_mul-at g c = omega (arith, (joined_part g.R.CardRow.written g.row.W g.met.R.CardRow.sized c.args.all.now c.loop-i.i c.loop-i-test.true).1)
-
-pub overflow_add-at : goal.overflow_add-at
-overflow_add-at g c = omega (arith, (joined_part g.R.CardRow.written g.row.W g.met.R.CardRow.sized c.args.all.now c.loop-i.i c.loop-i-test.true).1)
-
-pub slice_bounds-copy_from_slice-end : goal.slice_bounds-copy_from_slice-end
-slice_bounds-copy_from_slice-end g c = omega (arith, (joined_part g.R.CardRow.written g.row.W g.met.R.CardRow.sized c.args.all.now c.loop-i.i c.loop-i-test.true).1)
-
 pub loop-i-preserved : goal.loop-i-preserved
 loop-i-preserved g c =
     let w = g.R.CardRow.written in

@@ -6,7 +6,7 @@ use Rattle.field.proofs.Fields.{number_of_address}
 use Rattle.field.proofs.Wides.{Octets}
 use Rattle.record.specs.Lawful.{named}
 use Rattle.card.proofs.RowOctets.{tree_is}
-use Rattle.card.proofs.tree_rows.TreeRowCardRowTREE.read.Goals as goal
+use Rattle.card.proofs.tree_rows.TreeRowCardRowTREE_OCTETS.read.Goals as goal
 
 named_address : (n : ℕ) → named (address_of n) ≡ true
 named_address n = cond_both (eqb n 0) _ _ (λ a. named a ≡ true) (λ _. refl) (λ e. lt-ltb 0 n (let z = eqb-false n 0 e in omega arith))
