@@ -8,10 +8,10 @@ use Rattle.field.specs.declared.numbers.Address.{Address}
 use Rattle.field.specs.declared.tree_flags.Flag.{Flag}
 use Rattle.field.specs.declared.tree_flags.Flag.TheVariants.{Inconsistent, Stable, Unstable, TreeChange, NewNeighbour, Coloured}
 
--- the items with commas between, or that there is none
-abbrev pub list_text : List (List ℕ) → List ℕ
-list_text [] = codes "none"
-list_text (first ∷ more) = first ++ flat_map (λ item. codes "," ++ item) more
+-- the items with a separator between, or that there is none
+abbrev pub list_text : List ℕ → List (List ℕ) → List ℕ
+list_text separator [] = codes "none"
+list_text separator (first ∷ more) = first ++ flat_map (λ item. separator ++ item) more
 
 -- show tells what is written of each item
 abbrev pub Shows : {X : Type 0} → (X → Option (List ℕ)) → (X → List ℕ) → Type 0
@@ -31,7 +31,7 @@ all_flags = Coloured ∷ Inconsistent ∷ Stable ∷ Unstable ∷ TreeChange ∷
 
 -- those that stand
 unfoldable pub flags_text : ℕ → List ℕ
-flags_text bits = list_text (map flag_text (filter (λ flag. stands flag bits) all_flags))
+flags_text bits = list_text (codes ",") (map flag_text (filter (λ flag. stands flag bits) all_flags))
 
 abbrev pub class_text : EnergyClass → List ℕ
 class_text High = codes "high"

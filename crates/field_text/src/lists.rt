@@ -5,9 +5,10 @@ ghost use Rattle.field_text.specs.Texts.{Shows, list_text};
 
 use std::fmt;
 
-// Writes the items with commas between, or that there is none.
+// Writes the items with the separator between, or that there is none.
 pub fn write_list<I: Iterator, W: fmt::Write>(
     mut items: I,
+    separator: &str,
     f: &mut fmt::Formatter<W>,
 ) -> fmt::Result
 where
@@ -16,14 +17,14 @@ where
     requires ends { IsFinite (I.remaining items) }
     ensures { IsOk result → (xs : List I.Item) × Drains I.next_gives items xs
         × ((show : I.Item → List ℕ) → Shows I.Item.output show
-        → WritesOnOk W.write_str_gives f.old result (list_text (map show xs)) f.new) }
+        → WritesOnOk W.write_str_gives f.old result (list_text separator.now (map show xs)) f.new) }
 {
     let Some(first) = items.next() else {
         return f.write_str("none");
     };
     write!(f, "{first}")?;
     for item in items {
-        write!(f, ",{item}")?;
+        write!(f, "{separator}{item}")?;
     }
     Ok(())
 }
