@@ -3,7 +3,7 @@ ghost use Rattle.std.specs.Prelude.{IfOk, Some};
 
 use super::hexadecimal::read_octets;
 use super::rewriting::compare;
-use message_text::describe;
+use message_text::MessageText;
 use std::alloc::{AllocError, Global};
 use std::fmt;
 
@@ -34,9 +34,9 @@ pub fn inspect_line(heap: Global, line: &[u8]) -> Result<Inspected, AllocError>
     let octets = octets.as_slice();
     match frame::read(octets) {
         Ok(message) => {
-            let text = describe(heap, message)?;
             let rewritten = compare(message, octets);
-            Ok(Inspected::Message(format!(in heap; "{text} rewritten={rewritten}")?))
+            let text = format!(in heap; "{} rewritten={rewritten}", MessageText(message))?;
+            Ok(Inspected::Message(text))
         }
         Err(fault) => Ok(Inspected::Refused(fault.number())),
     }

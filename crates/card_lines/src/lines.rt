@@ -3,6 +3,7 @@ ghost use Rattle.card_lines.specs.Inspecting.{InspectsAny, InspectsCard, begins_
 
 use super::rewriting::compare_card;
 use capture::{Inspected, inspect_line, read_octets};
+use record_text::RecordText;
 use std::alloc::{AllocError, Global};
 use std::fmt;
 
@@ -54,9 +55,9 @@ fn inspect_card(heap: Global, line: &[u8]) -> Result<InspectedLine, AllocError>
     let octets = octets.as_slice();
     match card::read(octets) {
         Ok(held) => {
-            let text = record_text::describe(heap, &held)?;
             let rewritten = compare_card(&held, octets);
-            Ok(InspectedLine::Record(format!(in heap; "{text} rewritten={rewritten}")?))
+            let text = format!(in heap; "{} rewritten={rewritten}", RecordText(&held))?;
+            Ok(InspectedLine::Record(text))
         }
         Err(unlawful) => Ok(InspectedLine::Refused(unlawful.number())),
     }

@@ -17,13 +17,13 @@ impl fmt::Display for RecordText<'_> {
     #[tactic(auto, unfolding(crate::specs::Texts::record_text))]
     fn fmt<W: fmt::Write>(&self, f: &mut fmt::Formatter<W>) -> fmt::Result {
         let held = self.0;
-        let number = held.number;
-        let latest = held.latest;
         write!(
             f,
-            "Record address={} class={} number={number} latest={latest} neighbours=",
+            "Record address={} class={} number={} latest={} neighbours=",
             held.address.0,
             ClassText(held.class),
+            held.number,
+            held.latest,
         )?;
         let neighbours = held.neighbours.as_slice().iter();
         write_list(neighbours.map(|row| NeighbourText(row)), "", f)?;

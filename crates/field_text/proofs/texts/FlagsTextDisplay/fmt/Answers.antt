@@ -17,8 +17,8 @@ returns-clause-writes g c plain ok =
     let bits = c.args.self.now.0.0 in
     let source = YieldsList-from_shown array_steps (λ x. x) array_into_iter_items (λ s t e. e.0) (λ s x t e. e) c.into_iter.result in
     let all : array_into_iter_items c.into_iter.result ≡ all_flags = c.into_iter.ensures.into_iter_gives.0 in
-    let texts = list_text-of_all (codes ",") given.0 given.1
-    (YieldsList-from_map_by _ (λ x. flag_text x.0) flag_text
+    let texts = list_text-of_all (codes ",") (λ x. flag_text x.0) given.0 given.1
+    (YieldsList-from_map_by _ _ flag_text
     (YieldsList-at c.map.ensures.source
     (YieldsList-from_filter _ (λ flag. stands flag bits) (YieldsList-at c.filter-standing.ensures.source source) c.filter-standing.ensures.closure (λ x r q k. search (rules, tests))))
     c.map.ensures.closure (λ x r q k. search (rules, tests))) in
