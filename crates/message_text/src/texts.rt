@@ -73,7 +73,7 @@ impl fmt::Display for StcText {
     }
 }
 
-// What an STC offers, up to the parent.
+// The front of an STC: the way to the root that it offers.
 #[derive(Clone, Copy)]
 struct OfferText(StcFields);
 

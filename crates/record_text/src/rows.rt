@@ -6,6 +6,7 @@ use field_text::{ClassText, FlagsText, ParentText};
 use record::{NeighbourRow, TreeRow};
 use std::fmt;
 
+// A row of neighbours, in brackets.
 #[derive(Clone, Copy)]
 pub struct NeighbourText<'a>(pub &'a NeighbourRow);
 
@@ -29,6 +30,7 @@ impl fmt::Display for NeighbourText<'_> {
     }
 }
 
+// A row of trees, in brackets.
 #[derive(Clone, Copy)]
 pub struct TreeText<'a>(pub &'a TreeRow);
 
@@ -55,7 +57,7 @@ impl fmt::Display for TreeText<'_> {
     }
 }
 
-// What is held of the offer, up to the parent.
+// The front of a row of trees: the way to the root.
 #[derive(Clone, Copy)]
 struct OfferText<'a>(&'a TreeRow);
 

@@ -8,8 +8,5 @@ returns-in-Ok c =
     let xs = c.as_slice-octets.result.now in
     let reads = c.in-Ok.ensures in
     let spelt = sym c.in_ok-octets.ensures ∙ ap (option_map vec_items) c.in-Some.is ∙ ap Some (sym c.as_slice-octets.ensures.value) in
-    let text =
-    c.in_ok-format-in-Ok.ensures.ok
-    ∙ ap (λ l. l ++ (codes " rewritten=" ++ c.compare-rewritten.result.now)) c.in_ok-text-in-Ok.ensures
-    ∙ ap (λ l. message_text c.in-Ok.message ++ (codes " rewritten=" ++ l)) (c.compare-rewritten.ensures reads) in
+    let text = c.in_ok-text-in-Ok.ensures.ok ∙ ap (λ l. message_text c.in-Ok.message ++ (codes " rewritten=" ++ l)) (c.compare-rewritten.ensures reads) in
     (xs, c.in-Ok.message, spelt, reads, text)

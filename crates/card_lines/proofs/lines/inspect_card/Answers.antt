@@ -9,8 +9,5 @@ returns-in-Ok c =
     let xs = c.as_slice-octets.result.now in
     let reads = c.in-Ok.ensures in
     let spelt = sym c.in_ok-octets.ensures ∙ ap (option_map vec_items) c.in-Some.is ∙ ap Some (sym c.as_slice-octets.ensures.value) in
-    let text =
-    c.in_ok-format-in-Ok.ensures.ok
-    ∙ ap (λ l. l ++ (codes " rewritten=" ++ c.compare_card-rewritten.result.now)) c.in_ok-text-in-Ok.ensures
-    ∙ ap (λ l. record_text (state c.in-Ok.held) ++ (codes " rewritten=" ++ l)) (c.compare_card-rewritten.ensures reads) in
+    let text = c.in_ok-text-in-Ok.ensures.ok ∙ ap (λ l. record_text (state c.in-Ok.held) ++ (codes " rewritten=" ++ l)) (c.compare_card-rewritten.ensures reads) in
     (xs, c.in-Ok.held, spelt, reads, text)
