@@ -56,7 +56,7 @@ impl fmt::Display for FlagsText {
     fn fmt<W: fmt::Write>(&self, f: &mut fmt::Formatter<W>) -> fmt::Result {
         let FlagsText(flags) = *self;
         let standing = FLAGS.into_iter().filter(|flag| flags.has(*flag));
-        write_list(standing.map(|flag| FlagText(flag)), ",", f)
+        write_list(standing.map(FlagText), ",", f)
     }
 }
 

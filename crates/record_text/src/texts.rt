@@ -14,7 +14,6 @@ pub struct RecordText<'a>(pub &'a Record);
 impl fmt::Display for RecordText<'_> {
     ghost output = { λ x. Some (record_text (state x.0.now)) };
 
-    #[tactic(auto, unfolding(crate::specs::Texts::record_text))]
     fn fmt<W: fmt::Write>(&self, f: &mut fmt::Formatter<W>) -> fmt::Result {
         let held = self.0;
         write!(
@@ -26,9 +25,9 @@ impl fmt::Display for RecordText<'_> {
             held.latest,
         )?;
         let neighbours = held.neighbours.as_slice().iter();
-        write_list(neighbours.map(|row| NeighbourText(row)), "", f)?;
+        write_list(neighbours.map(NeighbourText), "", f)?;
         f.write_str(" trees=")?;
         let trees = held.trees.as_slice().iter();
-        write_list(trees.map(|row| TreeText(row)), "", f)
+        write_list(trees.map(TreeText), "", f)
     }
 }
