@@ -1,6 +1,6 @@
 -- Messages as text: the kind, then each field by name.
 use Rattle.std.specs.Prelude.{ℕ, List, ◌++◌, map, codes, decimal}
-use Rattle.field_text.specs.Texts.{list_text, flags_text, class_text, parent_text}
+pub use Rattle.field_text.specs.Texts.{list_text, flag_text, flags_text, class_text, parent_text}
 use Rattle.frame.specs.declared.hellos.HelloFields.{HelloFields}
 use Rattle.frame.specs.declared.messages.Message.{Message}
 use Rattle.frame.specs.declared.messages.Message.TheVariants as message
