@@ -4,7 +4,7 @@ ghost use Rattle.std.specs.Prelude.{IfOk, string_bytes};
 use super::faults::LineFault;
 use super::hexadecimal::read_octets;
 use super::rewriting::rewrite;
-use message_text::describe;
+use message_text::MessageText;
 use std::alloc::{AllocError, Global};
 
 // The message that the line spells, with its fields, and whether it is written again as it was read.
@@ -14,9 +14,8 @@ pub fn inspect_line(heap: Global, line: &[u8]) -> Result<String, LineFault>
     let octets = read_octets(heap, line)?.ok_or(LineFault::NoOctets)?;
     let octets = octets.as_slice();
     let message = frame::read(octets)?;
-    let text = describe(heap, message)?;
     let rewritten = rewrite(message, octets);
-    Ok(format!(in heap; "{text} rewritten={rewritten}")?)
+    Ok(format!(in heap; "{} rewritten={rewritten}", MessageText(message))?)
 }
 
 // What is printed of an inspected line.

@@ -2,7 +2,7 @@ ghost use Rattle.card_lines.specs.Inspecting.{InspectsAny, InspectsCard};
 
 use super::rewriting::rewrite_card;
 use capture::{LineFault, inspect_line, read_octets};
-use record_text::describe;
+use record_text::RecordText;
 use std::alloc::Global;
 
 // A line that begins with `card` is a card, any other a message.
@@ -22,7 +22,6 @@ fn inspect_card(heap: Global, line: &[u8]) -> Result<String, LineFault>
     let octets = read_octets(heap, line)?.ok_or(LineFault::NoOctets)?;
     let octets = octets.as_slice();
     let held = card::read(octets)?;
-    let text = describe(heap, &held)?;
     let rewritten = rewrite_card(&held, octets);
-    Ok(format!(in heap; "{text} rewritten={rewritten}")?)
+    Ok(format!(in heap; "{} rewritten={rewritten}", RecordText(&held))?)
 }

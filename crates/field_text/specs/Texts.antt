@@ -1,5 +1,6 @@
 -- The values of fields as text.
-use Rattle.std.specs.Prelude.{ℕ, cond, List, [], ◌++◌, length, Some, None, codes, decimal, Option, ◌==◌}
+use Rattle.std.specs.Prelude.{ℕ, ◌≡◌, List, [], ◌∷◌, ◌++◌, map, filter, Some, None, Option, codes, decimal}
+use Rattle.std.specs.List.{flat_map}
 use Rattle.field.specs.Bits.{stands}
 use Rattle.field.specs.declared.classes.EnergyClass.{EnergyClass}
 use Rattle.field.specs.declared.classes.EnergyClass.TheVariants.{High, Medium, Low}
@@ -7,12 +8,14 @@ use Rattle.field.specs.declared.numbers.Address.{Address}
 use Rattle.field.specs.declared.tree_flags.Flag.{Flag}
 use Rattle.field.specs.declared.tree_flags.Flag.TheVariants.{Inconsistent, Stable, Unstable, TreeChange, NewNeighbour, Coloured}
 
--- one more item of a list, behind a comma unless it is the first
-abbrev pub with_item : List ℕ → List ℕ → List ℕ
-with_item list item = cond (length list == 0) item (list ++ (codes "," ++ item))
+-- the items with a separator between, or that there is none
+abbrev pub list_text : List ℕ → List (List ℕ) → List ℕ
+list_text separator [] = codes "none"
+list_text separator (first ∷ more) = first ++ flat_map (λ item. separator ++ item) more
 
-abbrev pub or_none : List ℕ → List ℕ
-or_none list = cond (length list == 0) (codes "none") list
+-- show tells what is written of each item
+abbrev pub Shows : {X : Type 0} → (X → Option (List ℕ)) → (X → List ℕ) → Type 0
+Shows {X} output show = (x : X) → output x ≡ Some (show x)
 
 abbrev pub flag_text : Flag → List ℕ
 flag_text Coloured = codes "coloured"
@@ -22,18 +25,13 @@ flag_text Unstable = codes "unstable"
 flag_text TreeChange = codes "tree-change"
 flag_text NewNeighbour = codes "new-neighbour"
 
-abbrev pub with_flag : ℕ → Flag → List ℕ → List ℕ
-with_flag bits flag list = cond (stands flag bits) (with_item list (flag_text flag)) list
+-- in the order of a list
+abbrev pub all_flags : List Flag
+all_flags = Coloured ∷ Inconsistent ∷ Stable ∷ Unstable ∷ TreeChange ∷ NewNeighbour ∷ []
 
+-- those that stand
 unfoldable pub flags_text : ℕ → List ℕ
-flags_text bits =
-    or_none
-    (with_flag bits NewNeighbour
-    (with_flag bits TreeChange
-    (with_flag bits Unstable
-    (with_flag bits Stable
-    (with_flag bits Inconsistent
-    (with_flag bits Coloured []))))))
+flags_text bits = list_text (codes ",") (map flag_text (filter (λ flag. stands flag bits) all_flags))
 
 abbrev pub class_text : EnergyClass → List ℕ
 class_text High = codes "high"

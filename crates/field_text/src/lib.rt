@@ -1,6 +1,8 @@
 // The values of fields as text, and lists of them.
 #![tactic(auto)]
 
+mod lists;
 mod texts;
 
-pub use texts::{add_item, class_name, list_flags, name_parent, or_none};
+pub use lists::write_list;
+pub use texts::{ClassText, FlagsText, ParentText};

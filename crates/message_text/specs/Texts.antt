@@ -1,6 +1,6 @@
 -- Messages as text: the kind, then each field by name.
-use Rattle.std.specs.Prelude.{ℕ, List, [], ◌∷◌, ◌++◌, codes, decimal}
-pub use Rattle.field_text.specs.Texts.{with_item, or_none, flag_text, with_flag, flags_text, class_text, parent_text}
+use Rattle.std.specs.Prelude.{ℕ, List, ◌++◌, map, codes, decimal}
+pub use Rattle.field_text.specs.Texts.{list_text, flag_text, flags_text, class_text, parent_text}
 use Rattle.frame.specs.declared.hellos.HelloFields.{HelloFields}
 use Rattle.frame.specs.declared.messages.Message.{Message}
 use Rattle.frame.specs.declared.messages.Message.TheVariants as message
@@ -8,13 +8,8 @@ use Rattle.frame.specs.declared.stcs.StcFields.{StcFields}
 use Rattle.frame.specs.declared.tree_statuses.TreeStatusFields.{TreeStatusFields}
 use Rattle.hello_groups.specs.Splitting.{sym_in, asym_in}
 
--- a list and the addresses that follow it
-abbrev pub with_addresses : List ℕ → List ℕ → List ℕ
-with_addresses list [] = list
-with_addresses list (a ∷ more) = with_addresses (with_item list (decimal a)) more
-
 abbrev pub addresses_text : List ℕ → List ℕ
-addresses_text addresses = or_none (with_addresses [] addresses)
+addresses_text addresses = list_text (codes ",") (map decimal addresses)
 
 unfoldable pub hello_text : HelloFields → List ℕ
 hello_text f =

@@ -3,4 +3,4 @@
 
 mod texts;
 
-pub use texts::describe;
+pub use texts::MessageText;

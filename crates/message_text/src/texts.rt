@@ -1,80 +1,134 @@
-ghost use Rattle.std.specs.Prelude.{◌≡◌, IfOk, string_bytes};
+ghost use Rattle.std.specs.Prelude.{Some};
 ghost use Rattle.message_text.specs.Texts.{addresses_text, hello_text, offer_text, stc_text, tree_status_text, message_text};
 ghost use Rattle.hello_groups.specs.Listed.{addresses};
 
-use field::{Address, LinkCode};
-use field_text::{add_item, class_name, list_flags, name_parent, or_none};
+use field::{Address, LinkCode, TreeSequenceNumber, WaveNumber};
+use field_text::{ClassText, FlagsText, ParentText, write_list};
 use frame::{HelloFields, Message, StcFields, TreeStatusFields};
 use hello_groups::Addresses;
-use std::alloc::{AllocError, Global};
+use std::fmt;
 
-pub fn describe(heap: Global, message: Message<'_>) -> Result<String, AllocError>
-    ensures { IfOk result (λ t. string_bytes t ≡ message_text message.entry) }
-{
-    match message {
-        Message::Hello(message) => describe_hello(heap, message.fields()),
-        Message::Stc(message) => describe_stc(heap, message.fields()),
-        Message::TreeStatus(message) => describe_tree_status(heap, message.fields()),
+// A message, as its kind and then each field by name.
+#[derive(Clone, Copy)]
+pub struct MessageText<'a>(pub Message<'a>);
+
+impl fmt::Display for MessageText<'_> {
+    ghost output = { λ x. Some (message_text x.0) };
+
+    fn fmt<W: fmt::Write>(&self, f: &mut fmt::Formatter<W>) -> fmt::Result {
+        match self.0 {
+            Message::Hello(message) => HelloText(message.fields()).fmt(f),
+            Message::Stc(message) => StcText(message.fields()).fmt(f),
+            Message::TreeStatus(message) => TreeStatusText(message.fields()).fmt(f),
+        }
     }
 }
 
-fn describe_hello(heap: Global, fields: HelloFields<'_>) -> Result<String, AllocError>
-    ensures { IfOk result (λ t. string_bytes t ≡ hello_text fields.entry) }
-{
-    let sender = fields.sender.0;
-    let number = fields.number;
-    let vtime = fields.vtime;
-    let class = class_name(fields.class);
-    let sym = list_addresses(heap, fields.groups.addresses(LinkCode::Sym))?;
-    let asym = list_addresses(heap, fields.groups.addresses(LinkCode::Asym))?;
-    format!(in heap;
-        "Hello sender={sender} number={number} vtime={vtime} class={class} sym={sym} asym={asym}"
-    )
-}
+#[derive(Clone, Copy)]
+struct HelloText<'a>(HelloFields<'a>);
 
-fn describe_stc(heap: Global, fields: StcFields) -> Result<String, AllocError>
-    ensures { IfOk result (λ t. string_bytes t ≡ stc_text fields) }
-{
-    let offer = describe_offer(heap, fields)?;
-    let vtime = fields.vtime;
-    let ttl = fields.ttl;
-    let flags = list_flags(heap, fields.flags)?;
-    let tree = fields.tree.0;
-    format!(in heap; "{offer} vtime={vtime} ttl={ttl} flags={flags} tree={tree}")
-}
+impl fmt::Display for HelloText<'_> {
+    ghost output = { λ x. Some (hello_text x.0) };
 
-fn describe_offer(heap: Global, fields: StcFields) -> Result<String, AllocError>
-    ensures { IfOk result (λ t. string_bytes t ≡ offer_text fields) }
-{
-    let sender = fields.sender.0;
-    let wave = fields.wave.0;
-    let root = fields.root.0;
-    let cost = fields.cost;
-    let parent = name_parent(heap, fields.parent)?;
-    format!(in heap; "STC sender={sender} wave={wave} root={root} cost={cost} parent={parent}")
-}
-
-fn describe_tree_status(heap: Global, fields: TreeStatusFields) -> Result<String, AllocError>
-    ensures { IfOk result (λ t. string_bytes t ≡ tree_status_text fields) }
-{
-    let sender = fields.sender.0;
-    let wave = fields.wave.0;
-    let root = fields.root.0;
-    let tree = fields.tree.0;
-    let descendants = fields.descendants;
-    let flags = list_flags(heap, fields.flags)?;
-    format!(in heap;
-        "TreeStatus sender={sender} wave={wave} root={root} tree={tree} descendants={descendants} flags={flags}"
-    )
-}
-
-fn list_addresses(heap: Global, listed: Addresses<'_>) -> Result<String, AllocError>
-    ensures { IfOk result (λ t. string_bytes t ≡ addresses_text (addresses listed.entry)) }
-{
-    let mut list = String::new(heap);
-    let mut left = listed;
-    while let Some(Address(number)) = left.next() {
-        add_item(&mut list, format!(in heap; "{number}")?.as_str())?;
+    #[tactic(auto, unfolding(crate::specs::Texts::hello_text))]
+    fn fmt<W: fmt::Write>(&self, f: &mut fmt::Formatter<W>) -> fmt::Result {
+        let HelloFields {
+            sender: Address(sender),
+            number,
+            vtime,
+            class,
+            groups,
+        } = self.0;
+        write!(
+            f,
+            "Hello sender={sender} number={number} vtime={vtime} class={} sym={} asym={}",
+            ClassText(class),
+            AddressesText(groups.addresses(LinkCode::Sym)),
+            AddressesText(groups.addresses(LinkCode::Asym)),
+        )
     }
-    or_none(list)
+}
+
+#[derive(Clone, Copy)]
+struct StcText(StcFields);
+
+impl fmt::Display for StcText {
+    ghost output = { λ x. Some (stc_text x.0) };
+
+    #[tactic(auto, unfolding(crate::specs::Texts::stc_text))]
+    fn fmt<W: fmt::Write>(&self, f: &mut fmt::Formatter<W>) -> fmt::Result {
+        let StcFields {
+            vtime,
+            ttl,
+            flags,
+            tree: TreeSequenceNumber(tree),
+            ..
+        } = self.0;
+        write!(
+            f,
+            "{} vtime={vtime} ttl={ttl} flags={} tree={tree}",
+            OfferText(self.0),
+            FlagsText(flags),
+        )
+    }
+}
+
+// The front of an STC: the way to the root that it offers.
+#[derive(Clone, Copy)]
+struct OfferText(StcFields);
+
+impl fmt::Display for OfferText {
+    ghost output = { λ x. Some (offer_text x.0) };
+
+    #[tactic(auto, unfolding(crate::specs::Texts::offer_text))]
+    fn fmt<W: fmt::Write>(&self, f: &mut fmt::Formatter<W>) -> fmt::Result {
+        let StcFields {
+            sender: Address(sender),
+            wave: WaveNumber(wave),
+            root: Address(root),
+            cost,
+            parent,
+            ..
+        } = self.0;
+        write!(
+            f,
+            "STC sender={sender} wave={wave} root={root} cost={cost} parent={}",
+            ParentText(parent),
+        )
+    }
+}
+
+#[derive(Clone, Copy)]
+struct TreeStatusText(TreeStatusFields);
+
+impl fmt::Display for TreeStatusText {
+    ghost output = { λ x. Some (tree_status_text x.0) };
+
+    #[tactic(auto, unfolding(crate::specs::Texts::tree_status_text))]
+    fn fmt<W: fmt::Write>(&self, f: &mut fmt::Formatter<W>) -> fmt::Result {
+        let TreeStatusFields {
+            sender: Address(sender),
+            wave: WaveNumber(wave),
+            root: Address(root),
+            tree: TreeSequenceNumber(tree),
+            descendants,
+            flags,
+        } = self.0;
+        write!(
+            f,
+            "TreeStatus sender={sender} wave={wave} root={root} tree={tree} descendants={descendants} flags={}",
+            FlagsText(flags),
+        )
+    }
+}
+
+#[derive(Clone, Copy)]
+struct AddressesText<'a>(Addresses<'a>);
+
+impl fmt::Display for AddressesText<'_> {
+    ghost output = { λ x. Some (addresses_text (addresses x.0)) };
+
+    fn fmt<W: fmt::Write>(&self, f: &mut fmt::Formatter<W>) -> fmt::Result {
+        write_list(self.0.map(|address| address.0), ",", f)
+    }
 }

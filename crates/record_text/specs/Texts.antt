@@ -1,6 +1,6 @@
 -- Records as text: each field by name, then the rows.
-use Rattle.std.specs.Prelude.{ℕ, Bool, cond, List, [], ◌∷◌, ◌++◌, codes, decimal}
-use Rattle.field_text.specs.Texts.{or_none, flags_text, class_text, parent_text}
+use Rattle.std.specs.Prelude.{ℕ, Bool, cond, List, ◌++◌, map, codes, decimal}
+use Rattle.field_text.specs.Texts.{list_text, flags_text, class_text, parent_text}
 use Rattle.record.specs.States.{State}
 use Rattle.record.specs.declared.rows.NeighbourRow.{NeighbourRow}
 use Rattle.record.specs.declared.rows.TreeRow.{TreeRow}
@@ -33,12 +33,8 @@ tree_text row =
     ++ (codes " owed=" ++ (owed_text row.owed ++ codes "]"))))))))))
 
 -- one after the other
-abbrev pub joined_text : {X : Type 0} → (X → List ℕ) → List X → List ℕ
-joined_text text [] = []
-joined_text text (row ∷ rows) = text row ++ joined_text text rows
-
 abbrev pub rows_text : {X : Type 0} → (X → List ℕ) → List X → List ℕ
-rows_text text rows = or_none (joined_text text rows)
+rows_text text rows = list_text (codes "") (map text rows)
 
 unfoldable pub record_text : State → List ℕ
 record_text s =

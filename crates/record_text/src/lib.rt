@@ -4,4 +4,4 @@
 mod rows;
 mod texts;
 
-pub use texts::describe;
+pub use texts::RecordText;

@@ -1,56 +1,84 @@
-ghost use Rattle.std.specs.Prelude.{◌≡◌, ℕ, List, IfOk, string_bytes};
+ghost use Rattle.std.specs.Prelude.{◌≡◌, Some};
 ghost use Rattle.record_text.specs.Texts.{neighbour_text, offer_text, tree_text, owed_text};
 
-use field_text::{class_name, list_flags, name_parent};
+use field::{Address, TreeSequenceNumber, WaveNumber};
+use field_text::{ClassText, FlagsText, ParentText};
 use record::{NeighbourRow, TreeRow};
-use std::alloc::{AllocError, Global};
+use std::fmt;
 
-// A row that can be shown.
-pub trait RowText {
-    ghost text: { Self → List ℕ };
+// A row of neighbours, in brackets.
+#[derive(Clone, Copy)]
+pub struct NeighbourText<'a>(pub &'a NeighbourRow);
 
-    fn describe(&self, heap: Global) -> Result<String, AllocError>
-        ensures { IfOk result (λ t. string_bytes t ≡ text self.now) };
-}
-
-impl RowText for NeighbourRow {
-    ghost text = { neighbour_text };
+impl fmt::Display for NeighbourText<'_> {
+    ghost output = { λ x. Some (neighbour_text x.0.now) };
 
     #[tactic(auto, unfolding(crate::specs::Texts::neighbour_text))]
-    fn describe(&self, heap: Global) -> Result<String, AllocError> {
-        let address = self.address.0;
-        let sym = self.sym_until;
-        let heard = self.heard_until;
-        let class = class_name(self.class);
-        let power = self.power;
-        format!(in heap; "[address={address} sym={sym} heard={heard} class={class} power={power}]")
+    fn fmt<W: fmt::Write>(&self, f: &mut fmt::Formatter<W>) -> fmt::Result {
+        let NeighbourRow {
+            address: Address(address),
+            sym_until,
+            heard_until,
+            class,
+            power,
+        } = *self.0;
+        write!(
+            f,
+            "[address={address} sym={sym_until} heard={heard_until} class={} power={power}]",
+            ClassText(class),
+        )
     }
 }
 
-impl RowText for TreeRow {
-    ghost text = { tree_text };
+// A row of trees, in brackets.
+#[derive(Clone, Copy)]
+pub struct TreeText<'a>(pub &'a TreeRow);
+
+impl fmt::Display for TreeText<'_> {
+    ghost output = { λ x. Some (tree_text x.0.now) };
 
     #[tactic(auto, unfolding(crate::specs::Texts::tree_text))]
-    fn describe(&self, heap: Global) -> Result<String, AllocError> {
-        let offer = describe_offer(heap, self)?;
-        let valid = self.valid_until;
-        let ttl = self.ttl;
-        let flags = list_flags(heap, self.flags)?;
-        let tree = self.tree.0;
-        let owed = owed_name(self.owed);
-        format!(in heap; "{offer} valid={valid} ttl={ttl} flags={flags} tree={tree} owed={owed}]")
+    fn fmt<W: fmt::Write>(&self, f: &mut fmt::Formatter<W>) -> fmt::Result {
+        let TreeRow {
+            valid_until,
+            ttl,
+            flags,
+            tree: TreeSequenceNumber(tree),
+            owed,
+            ..
+        } = *self.0;
+        write!(
+            f,
+            "{} valid={valid_until} ttl={ttl} flags={} tree={tree} owed={}]",
+            OfferText(self.0),
+            FlagsText(flags),
+            owed_name(owed),
+        )
     }
 }
 
-#[tactic(auto, unfolding(crate::specs::Texts::offer_text))]
-fn describe_offer(heap: Global, row: &TreeRow) -> Result<String, AllocError>
-    ensures { IfOk result (λ t. string_bytes t ≡ offer_text row.now) }
-{
-    let root = row.root.0;
-    let wave = row.wave.0;
-    let cost = row.cost;
-    let parent = name_parent(heap, row.parent)?;
-    format!(in heap; "[root={root} wave={wave} cost={cost} parent={parent}")
+// The front of a row of trees: the way to the root.
+#[derive(Clone, Copy)]
+struct OfferText<'a>(&'a TreeRow);
+
+impl fmt::Display for OfferText<'_> {
+    ghost output = { λ x. Some (offer_text x.0.now) };
+
+    #[tactic(auto, unfolding(crate::specs::Texts::offer_text))]
+    fn fmt<W: fmt::Write>(&self, f: &mut fmt::Formatter<W>) -> fmt::Result {
+        let TreeRow {
+            root: Address(root),
+            wave: WaveNumber(wave),
+            cost,
+            parent,
+            ..
+        } = *self.0;
+        write!(
+            f,
+            "[root={root} wave={wave} cost={cost} parent={}",
+            ParentText(parent),
+        )
+    }
 }
 
 fn owed_name(owed: bool) -> &'static str

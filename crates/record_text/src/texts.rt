@@ -1,34 +1,33 @@
-ghost use Rattle.std.specs.Prelude.{◌≡◌, IfOk, string_bytes};
+ghost use Rattle.std.specs.Prelude.{Some};
 ghost use Rattle.record.specs.Records.{state};
-ghost use Rattle.record_text.specs.Texts.{rows_text, record_text};
+ghost use Rattle.record_text.specs.Texts.{record_text};
 
-use crate::rows::RowText;
-use field_text::{class_name, or_none};
+use crate::rows::{NeighbourText, TreeText};
+use field_text::{ClassText, write_list};
 use record::Record;
-use std::alloc::{AllocError, Global};
+use std::fmt;
 
-#[tactic(auto, unfolding(crate::specs::Texts::record_text))]
-pub fn describe(heap: Global, held: &Record) -> Result<String, AllocError>
-    ensures { IfOk result (λ t. string_bytes t ≡ record_text (state held.now)) }
-{
-    let address = held.address.0;
-    let class = class_name(held.class);
-    let number = held.number;
-    let latest = held.latest;
-    let neighbours = list_rows(heap, held.neighbours.as_slice())?;
-    let trees = list_rows(heap, held.trees.as_slice())?;
-    format!(in heap;
-        "Record address={address} class={class} number={number} latest={latest} neighbours={neighbours} trees={trees}"
-    )
-}
+// A record, as each field by name and then the rows.
+#[derive(Clone, Copy)]
+pub struct RecordText<'a>(pub &'a Record);
 
-// The rows one after the other, or that there is none.
-fn list_rows<R: RowText>(heap: Global, all: &[R]) -> Result<String, AllocError>
-    ensures { IfOk result (λ t. string_bytes t ≡ rows_text R.RowText.text all.now) }
-{
-    let mut list = String::new(heap);
-    for row in all {
-        list.push_str(row.describe(heap)?.as_str())?;
+impl fmt::Display for RecordText<'_> {
+    ghost output = { λ x. Some (record_text (state x.0.now)) };
+
+    fn fmt<W: fmt::Write>(&self, f: &mut fmt::Formatter<W>) -> fmt::Result {
+        let held = self.0;
+        write!(
+            f,
+            "Record address={} class={} number={} latest={} neighbours=",
+            held.address.0,
+            ClassText(held.class),
+            held.number,
+            held.latest,
+        )?;
+        let neighbours = held.neighbours.as_slice().iter();
+        write_list(neighbours.map(NeighbourText), "", f)?;
+        f.write_str(" trees=")?;
+        let trees = held.trees.as_slice().iter();
+        write_list(trees.map(TreeText), "", f)
     }
-    or_none(list)
 }

@@ -10,6 +10,5 @@ returns c =
     let spelt = sym c.in_ok-read_octets.ensures ∙ ap (option_map vec_items) c.in_ok-octets.ensures.ok_part ∙ ap Some (sym c.as_slice-octets.ensures.value) in
     let text =
     c.in_ok-format.ensures.ok
-    ∙ ap (λ l. l ++ (codes " rewritten=" ++ c.rewrite-rewritten.result.now)) c.in_ok-text.ensures
     ∙ ap (λ l. message_text c.in_ok-message.message ++ (codes " rewritten=" ++ l)) (c.rewrite-rewritten.ensures reads) in
     (xs, c.in_ok-message.message, spelt, reads, text)

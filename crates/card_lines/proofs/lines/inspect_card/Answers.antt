@@ -11,6 +11,5 @@ returns c =
     let spelt = sym c.in_ok-read_octets.ensures ∙ ap (option_map vec_items) c.in_ok-octets.ensures.ok_part ∙ ap Some (sym c.as_slice-octets.ensures.value) in
     let text =
     c.in_ok-format.ensures.ok
-    ∙ ap (λ l. l ++ (codes " rewritten=" ++ c.rewrite_card-rewritten.result.now)) c.in_ok-text.ensures
     ∙ ap (λ l. record_text (state c.in_ok-held.held) ++ (codes " rewritten=" ++ l)) (c.rewrite_card-rewritten.ensures.same reads) in
     (xs, c.in_ok-held.held, spelt, reads, text)

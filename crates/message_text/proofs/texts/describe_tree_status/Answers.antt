@@ -1,7 +1,0 @@
-use Rattle.std.proofs.lemmas.Result.{IfOk-weaker}
-use Rattle.message_text.specs.Texts.{tree_status_text}
-use Rattle.message_text.proofs.texts.describe_tree_status.Goals as goal
-
-pub returns : goal.returns
-unfolding tree_status_text
-returns c = IfOk-weaker c.format.result _ _ (λ t e. rw (← c.in_ok-flags.ensures) e) c.format.ensures.ok
