@@ -5,8 +5,8 @@ ghost use Rattle.frame.specs.Faults.{BreaksHello};
 ghost use Rattle.frame.specs.Rules.{HelloRules};
 ghost use Rattle.frame.specs.Values.{hello_values};
 
-use super::kept::{Fields, Kept};
 use super::faults::{ReadFault, WriteFault};
+use super::kept::{Fields, Kept};
 use field::{Address, EnergyClass, Kind, two_octets};
 use hello_groups::Groups;
 
