@@ -17,7 +17,7 @@ read_fault_number BadGroup = 5
 abbrev pub write_fault_number : WriteFault → ℕ
 write_fault_number OutputTooShort = 14
 
--- the rules of the fixed fields, or of the groups
+-- the rule of a Hello that a refusal names: that of its fixed fields or that of its groups
 abbrev pub BreaksHello : HelloValues → ReadFault → Type 0
 BreaksHello h BadField = h.sender ≡ 0
 BreaksHello h BadGroup = (1 ≤ h.sender) × (Grouped h.groups → ⊥)
@@ -25,7 +25,7 @@ BreaksHello h Short = ⊥
 BreaksHello h UnknownKind = ⊥
 BreaksHello h WrongSize = ⊥
 
--- the rules of a message without groups
+-- that of a message without groups, where all rules are of fields
 abbrev pub BreaksField : Type 0 → ReadFault → Type 0
 BreaksField Rules BadField = Rules → ⊥
 BreaksField Rules BadGroup = ⊥

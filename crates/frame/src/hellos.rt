@@ -69,6 +69,7 @@ impl<'a> Kept<HelloFields<'a>> {
     {
         let fields = self.fields();
         let Groups(groups) = fields.groups;
+        // at most 43, by the rules
         let len = 7 + groups.len();
         if out.len() < len {
             return Err(WriteFault::OutputTooShort);

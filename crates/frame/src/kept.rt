@@ -4,21 +4,22 @@ ghost use Rattle.frame.specs.declared.faults.ReadFault.{ReadFault};
 use super::faults::ReadFault;
 use std::alloc::AllocError;
 
-// What a kind of message says.
+// What a message of one kind says. Not for other crates: there are three kinds.
 pub trait Fields: Copy {
-    // that they keep the kind's rules, and that there is one proof of it at most
+    // that they keep the rules of the kind
     ghost kept: { Self → Type 0 };
 
+    // which a ghost field can say, as it has one proof at most
     ghost kept_once: { (fields : Self) → IsProp (kept fields) };
 
-    // what a refusal says of them
+    // that they break the rule that a refusal names
     ghost breaks: { Self → ReadFault → Type 0 };
 
     fn judge(self) -> Result<(), ReadFault>
         ensures { MatchResult result (λ _. kept self) (breaks self) };
 }
 
-// Fields that keep the rules.
+// A message: fields that keep the rules of their kind.
 pub struct Kept<F: Fields> {
     fields: F,
     ghost rules: { F.kept fields } by { F.kept_once fields },
@@ -39,7 +40,7 @@ impl<F: Fields> Kept<F> {
     }
 }
 
-// By hand, since a derive does not reach the ghost field of a type parameter.
+// By hand, since no derive is to be had for a generic struct with a ghost field.
 impl<F: Fields> Clone for Kept<F> {
     ghost is_clone = { λ x y. y ≡ x };
 

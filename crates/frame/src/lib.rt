@@ -12,7 +12,6 @@ mod tree_statuses;
 
 pub use faults::{ReadFault, WriteFault};
 pub use hellos::{Hello, HelloFields};
-pub use kept::{Fields, Kept};
 pub use laws::{
     first_stc_of_a_root, messages_are_short, messages_keep_rules, read_is_written, written_is_read,
 };
