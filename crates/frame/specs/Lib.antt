@@ -1,5 +1,4 @@
 pub mod Faults
-pub mod Making
 pub mod Messages
 pub mod Octets
 pub mod Reading

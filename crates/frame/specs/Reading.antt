@@ -10,10 +10,11 @@ use Rattle.frame.specs.Messages.{values}
 use Rattle.field.specs.Wide.{at, wide_at}
 use Rattle.frame.specs.declared.faults.ReadFault.{ReadFault}
 use Rattle.frame.specs.declared.faults.ReadFault.TheVariants.{Short, UnknownKind, WrongSize, BadField, BadGroup}
-use Rattle.frame.specs.declared.hellos.Hello.{Hello}
+use Rattle.frame.specs.declared.hellos.HelloFields.{HelloFields}
+use Rattle.frame.specs.declared.kept.Kept.{Kept}
 use Rattle.frame.specs.declared.messages.Message.{Message}
-use Rattle.frame.specs.declared.stcs.Stc.{Stc}
-use Rattle.frame.specs.declared.tree_statuses.TreeStatus.{TreeStatus}
+use Rattle.frame.specs.declared.stcs.StcFields.{StcFields}
+use Rattle.frame.specs.declared.tree_statuses.TreeStatusFields.{TreeStatusFields}
 
 -- an STC's fields, which follow type and size, at their places
 abbrev pub stc_at : List ℕ → StcValues
@@ -71,7 +72,7 @@ Says (Err f) v = ⊥
 
 -- ---- the kinds, once type and size octet are known
 
-abbrev pub ReadsHello : List ℕ → Result Hello ReadFault → Type 0
+abbrev pub ReadsHello : {kept : _} → List ℕ → Result (Kept HelloFields kept) ReadFault → Type 0
 ReadsHello xs (Ok m) = HelloRules (hello_values m.fields) × (7 ≤ length xs) × (hello_octets (hello_values m.fields) ≡ 1 ∷ length xs ∷ drop 2 xs)
 ReadsHello xs (Err WrongSize) = length xs < 7
 ReadsHello xs (Err BadField) = (7 ≤ length xs) × (HelloFixed xs → ⊥)
@@ -80,16 +81,17 @@ ReadsHello xs (Err Short) = ⊥
 ReadsHello xs (Err UnknownKind) = ⊥
 
 -- fields of a fixed number of octets, as they are written and as they stand
-abbrev pub ReadsFields : {V M : Type 0} → (M → V) → (V → Type 0) → ℕ → (V → List ℕ) → (List ℕ → V) → List ℕ → Result M ReadFault → Type 0
-ReadsFields values Rules n written placed xs (Ok m) = Rules (values m) × (written (values m) ≡ xs)
-ReadsFields values Rules n written placed xs (Err WrongSize) = length xs ≡ n → ⊥
-ReadsFields values Rules n written placed xs (Err BadField) = (length xs ≡ n) × (Rules (placed xs) → ⊥)
-ReadsFields values Rules n written placed xs (Err BadGroup) = ⊥
-ReadsFields values Rules n written placed xs (Err Short) = ⊥
-ReadsFields values Rules n written placed xs (Err UnknownKind) = ⊥
+module _ {F V : Type 0} (values : F → V) (Rules : V → Type 0) (n : ℕ) (written : V → List ℕ) (placed : List ℕ → V) where
+  abbrev pub ReadsFields : {kept : _} → List ℕ → Result (Kept F kept) ReadFault → Type 0
+  ReadsFields xs (Ok m) = Rules (values m.fields) × (written (values m.fields) ≡ xs)
+  ReadsFields xs (Err WrongSize) = length xs ≡ n → ⊥
+  ReadsFields xs (Err BadField) = (length xs ≡ n) × (Rules (placed xs) → ⊥)
+  ReadsFields xs (Err BadGroup) = ⊥
+  ReadsFields xs (Err Short) = ⊥
+  ReadsFields xs (Err UnknownKind) = ⊥
 
-abbrev pub ReadsStc : List ℕ → Result Stc ReadFault → Type 0
-ReadsStc = ReadsFields (λ m. stc_values m.fields) StcRules 15 stc_fields stc_at
+abbrev pub ReadsStc : {kept : _} → List ℕ → Result (Kept StcFields kept) ReadFault → Type 0
+ReadsStc = ReadsFields stc_values StcRules 15 stc_fields stc_at
 
-abbrev pub ReadsTreeStatus : List ℕ → Result TreeStatus ReadFault → Type 0
-ReadsTreeStatus = ReadsFields (λ m. tree_status_values m.fields) TreeStatusRules 11 tree_status_fields tree_status_at
+abbrev pub ReadsTreeStatus : {kept : _} → List ℕ → Result (Kept TreeStatusFields kept) ReadFault → Type 0
+ReadsTreeStatus = ReadsFields tree_status_values TreeStatusRules 11 tree_status_fields tree_status_at

@@ -1,10 +1,12 @@
 ghost use Rattle.std.specs.Prelude.{◌≡◌};
-ghost use Rattle.std.specs.Coded.{le_prop};
+ghost use Rattle.std.proofs.Props.{props};
 ghost use Rattle.hello_groups.proofs.Grouping.{grouped_prop};
+ghost use Rattle.frame.specs.Faults.{BreaksHello};
 ghost use Rattle.frame.specs.Rules.{HelloRules};
 ghost use Rattle.frame.specs.Values.{hello_values};
 
 use super::faults::{ReadFault, WriteFault};
+use super::kept::{Fields, Kept};
 use field::{Address, EnergyClass, Kind, two_octets};
 use hello_groups::Groups;
 
@@ -19,37 +21,31 @@ pub struct HelloFields<'a> {
     pub groups: Groups<'a>,
 }
 
-// A Hello that keeps the rules.
-#[derive(Clone, Copy)]
-pub struct Hello<'a> {
-    fields: HelloFields<'a>,
-    ghost rules: { HelloRules (hello_values fields) } by { Prim.hlevel (le_prop, grouped_prop) },
+pub type Hello<'a> = Kept<HelloFields<'a>>;
+
+impl Fields for HelloFields<'_> {
+    ghost kept = { λ fields. HelloRules (hello_values fields) };
+
+    ghost kept_once = { λ _. Prim.hlevel (props, grouped_prop) };
+
+    ghost breaks = { λ fields. BreaksHello (hello_values fields) };
+
+    fn judge(self) -> Result<(), ReadFault> {
+        if self.sender.0 == 0 {
+            Err(ReadFault::BadField)
+        } else if !self.groups.keep_rules() {
+            Err(ReadFault::BadGroup)
+        } else {
+            Ok(())
+        }
+    }
 }
 
-impl<'a> Hello<'a> {
-    ghost use Rattle.frame.specs.Making.{MakesHello};
+impl<'a> Kept<HelloFields<'a>> {
     ghost use Rattle.frame.specs.Octets.{octets};
     ghost use Rattle.frame.specs.Reading.{ReadsHello};
     ghost use Rattle.frame.specs.Values.{hello};
     ghost use Rattle.frame.specs.Writing.{Writes};
-
-    pub fn new(fields: HelloFields<'a>) -> Result<Hello<'a>, ReadFault>
-        ensures { MakesHello (hello_values fields.entry) result }
-    {
-        if fields.sender.0 == 0 {
-            return Err(ReadFault::BadField);
-        }
-        if !fields.groups.keep_rules() {
-            return Err(ReadFault::BadGroup);
-        }
-        Ok(Hello { fields })
-    }
-
-    pub fn fields(self) -> HelloFields<'a>
-        ensures { result ≡ self.entry.fields }
-    {
-        self.fields
-    }
 
     // The Hello that the octets are, once its type and size octet are known.
     pub(crate) fn read(octets: &'a [u8]) -> Result<Hello<'a>, ReadFault>
@@ -71,8 +67,9 @@ impl<'a> Hello<'a> {
     pub(crate) fn write(self, out: &mut [u8]) -> Result<usize, WriteFault>
         ensures { Writes (octets (hello (hello_values self.entry.fields))) out.old out.new result }
     {
-        let Hello { fields } = self;
+        let fields = self.fields();
         let Groups(groups) = fields.groups;
+        // at most 43, by the rules
         let len = 7 + groups.len();
         if out.len() < len {
             return Err(WriteFault::OutputTooShort);

@@ -3,6 +3,7 @@
 
 mod faults;
 mod hellos;
+mod kept;
 mod laws;
 mod messages;
 mod outputs;

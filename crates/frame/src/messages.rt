@@ -28,11 +28,11 @@ pub fn read(octets: &[u8]) -> Result<Message<'_>, ReadFault>
     if *size as usize != octets.len() {
         return Err(ReadFault::WrongSize);
     }
-    match kind {
-        Kind::Hello => Ok(Message::Hello(Hello::read(octets)?)),
-        Kind::Stc => Ok(Message::Stc(Stc::read(rest)?)),
-        Kind::TreeStatus => Ok(Message::TreeStatus(TreeStatus::read(rest)?)),
-    }
+    Ok(match kind {
+        Kind::Hello => Message::Hello(Hello::read(octets)?),
+        Kind::Stc => Message::Stc(Stc::read(rest)?),
+        Kind::TreeStatus => Message::TreeStatus(TreeStatus::read(rest)?),
+    })
 }
 
 impl Message<'_> {

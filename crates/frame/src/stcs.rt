@@ -1,9 +1,12 @@
-ghost use Rattle.std.specs.Prelude.{◌≡◌, MatchBool};
+ghost use Rattle.std.specs.Prelude.{◌≡◌};
+ghost use Rattle.std.proofs.Props.{props};
+ghost use Rattle.frame.specs.Faults.{BreaksField};
 ghost use Rattle.frame.specs.Rules.{StcRules};
-ghost use Rattle.frame.specs.Values.{stc, stc_values};
+ghost use Rattle.frame.specs.Values.{stc_values};
 
 use super::faults::ReadFault;
-use field::{Address, Cost, Flag, Flags, Kind, TreeSequenceNumber, WaveNumber, two_octets};
+use super::kept::{Fields, Kept};
+use field::{Address, Cost, Flags, Kind, TreeSequenceNumber, WaveNumber, two_octets};
 
 // An offer of a way to the root of a tree.
 #[derive(Clone, Copy)]
@@ -19,48 +22,33 @@ pub struct StcFields {
     pub tree: TreeSequenceNumber,
 }
 
-// An STC that keeps the rules.
-#[derive(Clone, Copy)]
-pub struct Stc {
-    fields: StcFields,
-    ghost rules: { StcRules (stc_values fields) },
-}
+pub type Stc = Kept<StcFields>;
 
-impl StcFields {
-    fn keep_rules(&self) -> bool
-        ensures { MatchBool result (StcRules (stc_values self.now)) (StcRules (stc_values self.now) → ⊥) }
-    {
-        let bare = self.flags.0 == 0 && self.tree.0 == 0;
-        self.sender.0 != 0
+impl Fields for StcFields {
+    ghost kept = { λ fields. StcRules (stc_values fields) };
+
+    ghost kept_once = { λ _. Prim.hlevel props };
+
+    ghost breaks = { λ fields. BreaksField (StcRules (stc_values fields)) };
+
+    fn judge(self) -> Result<(), ReadFault> {
+        if self.sender.0 != 0
             && self.wave.0 != 0
             && self.root.0 != 0
-            && self.ttl >= 1
-            && self.ttl <= 32
-            && self.flags.are_known()
-            && (bare || self.flags.has(Flag::Coloured))
-    }
-}
-
-impl Stc {
-    ghost use Rattle.frame.specs.Making.{MakesStc};
-    ghost use Rattle.frame.specs.Octets.{octets};
-    ghost use Rattle.frame.specs.Reading.{ReadsStc};
-
-    pub fn new(fields: StcFields) -> Result<Stc, ReadFault>
-        ensures { MakesStc (stc_values fields) result }
-    {
-        if fields.keep_rules() {
-            Ok(Stc { fields })
+            && (1..=32).contains(&self.ttl)
+            && self.flags.suit(self.tree)
+        {
+            Ok(())
         } else {
             Err(ReadFault::BadField)
         }
     }
+}
 
-    pub fn fields(self) -> StcFields
-        ensures { result ≡ self.fields }
-    {
-        self.fields
-    }
+impl Kept<StcFields> {
+    ghost use Rattle.frame.specs.Octets.{octets};
+    ghost use Rattle.frame.specs.Reading.{ReadsStc};
+    ghost use Rattle.frame.specs.Values.{stc};
 
     // The STC whose fields follow type and size.
     pub(crate) fn read(fields: &[u8]) -> Result<Stc, ReadFault>
@@ -102,7 +90,7 @@ impl Stc {
     pub(crate) fn octets(self) -> [u8; 17]
         ensures { result ≡ octets (stc (stc_values self.fields)) }
     {
-        let Stc { fields } = self;
+        let fields = self.fields();
         let [s1, s0] = two_octets(fields.sender.0);
         let [w1, w0] = two_octets(fields.wave.0);
         let [r1, r0] = two_octets(fields.root.0);

@@ -1,8 +1,11 @@
-ghost use Rattle.std.specs.Prelude.{◌≡◌, MatchBool};
+ghost use Rattle.std.specs.Prelude.{◌≡◌};
+ghost use Rattle.std.proofs.Props.{props};
+ghost use Rattle.frame.specs.Faults.{BreaksField};
 ghost use Rattle.frame.specs.Rules.{TreeStatusRules};
-ghost use Rattle.frame.specs.Values.{tree_status, tree_status_values};
+ghost use Rattle.frame.specs.Values.{tree_status_values};
 
 use super::faults::ReadFault;
+use super::kept::{Fields, Kept};
 use field::{Address, Flags, Kind, TreeSequenceNumber, WaveNumber, two_octets};
 
 // Whether a coloured tree is at rest below the sender.
@@ -16,41 +19,28 @@ pub struct TreeStatusFields {
     pub flags: Flags,
 }
 
-// A Tree Status that keeps the rules.
-#[derive(Clone, Copy)]
-pub struct TreeStatus {
-    fields: TreeStatusFields,
-    ghost rules: { TreeStatusRules (tree_status_values fields) },
-}
+pub type TreeStatus = Kept<TreeStatusFields>;
 
-impl TreeStatusFields {
-    fn keep_rules(&self) -> bool
-        ensures { MatchBool result (TreeStatusRules (tree_status_values self.now)) (TreeStatusRules (tree_status_values self.now) → ⊥) }
-    {
-        self.sender.0 != 0 && self.wave.0 != 0 && self.root.0 != 0 && self.flags.are_known()
-    }
-}
+impl Fields for TreeStatusFields {
+    ghost kept = { λ fields. TreeStatusRules (tree_status_values fields) };
 
-impl TreeStatus {
-    ghost use Rattle.frame.specs.Making.{MakesTreeStatus};
-    ghost use Rattle.frame.specs.Octets.{octets};
-    ghost use Rattle.frame.specs.Reading.{ReadsTreeStatus};
+    ghost kept_once = { λ _. Prim.hlevel props };
 
-    pub fn new(fields: TreeStatusFields) -> Result<TreeStatus, ReadFault>
-        ensures { MakesTreeStatus (tree_status_values fields) result }
-    {
-        if fields.keep_rules() {
-            Ok(TreeStatus { fields })
+    ghost breaks = { λ fields. BreaksField (TreeStatusRules (tree_status_values fields)) };
+
+    fn judge(self) -> Result<(), ReadFault> {
+        if self.sender.0 != 0 && self.wave.0 != 0 && self.root.0 != 0 && self.flags.are_known() {
+            Ok(())
         } else {
             Err(ReadFault::BadField)
         }
     }
+}
 
-    pub fn fields(self) -> TreeStatusFields
-        ensures { result ≡ self.fields }
-    {
-        self.fields
-    }
+impl Kept<TreeStatusFields> {
+    ghost use Rattle.frame.specs.Octets.{octets};
+    ghost use Rattle.frame.specs.Reading.{ReadsTreeStatus};
+    ghost use Rattle.frame.specs.Values.{tree_status};
 
     // The Tree Status whose fields follow type and size.
     pub(crate) fn read(fields: &[u8]) -> Result<TreeStatus, ReadFault>
@@ -72,7 +62,7 @@ impl TreeStatus {
     pub(crate) fn octets(self) -> [u8; 13]
         ensures { result ≡ octets (tree_status (tree_status_values self.fields)) }
     {
-        let TreeStatus { fields } = self;
+        let fields = self.fields();
         let [s1, s0] = two_octets(fields.sender.0);
         let [w1, w0] = two_octets(fields.wave.0);
         let [r1, r0] = two_octets(fields.root.0);
