@@ -52,7 +52,7 @@ impl TryFrom<LineFault> for u8 {
             LineFault::NoMemory(error) => Err(error),
             LineFault::NoOctets => Ok(0),
             LineFault::NoMessage(fault) => Ok(fault.into()),
-            LineFault::NoRecord(fault) => Ok(fault.number()),
+            LineFault::NoRecord(fault) => Ok(fault.into()),
         }
     }
 }

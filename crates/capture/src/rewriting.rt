@@ -1,14 +1,16 @@
-ghost use Rattle.std.specs.Prelude.{◌≡◌, true, Ok, codes};
-ghost use Rattle.frame.specs.Reading.{Reads};
+ghost use Rattle.std.specs.Prelude.{◌≡◌, ◌≢◌, codes};
+ghost use Rattle.frame.specs.Messages.{values};
+ghost use Rattle.frame.specs.Octets.{octets as octets_of};
 
 use frame::Message;
 
 // The longest message.
 const MOST_OCTETS: usize = 43;
 
-// How the message compares with the octets that it was read from once it is written again.
+// How the octets of the message compare with those that it was read from.
 pub fn rewrite(message: Message<'_>, octets: &[u8]) -> &'static str
-    ensures { Reads octets.now (Ok message.entry) → result.now ≡ codes "same" }
+    ensures same { octets_of (values message.entry) ≡ octets.now → result.now ≡ codes "same" }
+    ensures different { octets_of (values message.entry) ≢ octets.now → result.now ≡ codes "different" }
 {
     let mut out = [0; MOST_OCTETS];
     let len = message.write(&mut out).unwrap_or(0);
@@ -17,7 +19,7 @@ pub fn rewrite(message: Message<'_>, octets: &[u8]) -> &'static str
 
 pub fn compare(written: &[u8], read: &[u8]) -> &'static str
     ensures same { written.now ≡ read.now → result.now ≡ codes "same" }
-    ensures different { (written.now ≡ read.now → ⊥) → result.now ≡ codes "different" }
+    ensures different { written.now ≢ read.now → result.now ≡ codes "different" }
 {
     if written == read { "same" } else { "different" }
 }

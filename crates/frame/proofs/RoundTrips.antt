@@ -1,9 +1,10 @@
 -- What is written is read, and what is read is written.
-use Rattle.std.proofs.Common.{◌≡◌, ℕ, ◌+◌, ◌*◌, ◌/◌, ◌%◌, ◌≤◌, List, [], ◌∷◌, ◌++◌, length, drop, Ok, Err, sym, refl, ap, ◌∙◌, subst, arith, length-append}
+use Rattle.std.proofs.Common.{◌≡◌, ℕ, ◌+◌, ◌*◌, ◌/◌, ◌%◌, ◌≤◌, List, [], ◌∷◌, ◌++◌, length, drop, Ok, Err, sym, refl, ap, ◌∙◌, subst, arith, rules, length-append}
 use Rattle.hello_groups.specs.Groups.{group}
 use Rattle.frame.specs.Octets.{octets, hello_octets, stc_fields, tree_status_fields}
 use Rattle.frame.specs.Reading.{Rule, stc_at, tree_status_at}
-use Rattle.frame.specs.RoundTrip.{WrittenIsRead, ReadIsWritten, MessagesAreShort}
+use Rattle.frame.specs.RoundTrip.{WrittenIsRead, ReadIsWritten, MessagesKeepRules, MessagesAreShort}
+use Rattle.frame.specs.declared.messages.Message.TheVariants as message
 use Rattle.frame.specs.Rules.{WellFormed, HelloRules, StcRules, TreeStatusRules}
 use Rattle.frame.specs.Values.{HelloValues, StcValues, TreeStatusValues, Values, hello, stc, tree_status}
 use Rattle.frame.specs.Messages.{values}
@@ -93,6 +94,11 @@ hellos_are_short h rules =
       group_length 1 s,
       group_length 2 a,
     )
+
+pub messages_keep_rules : MessagesKeepRules
+messages_keep_rules (message.Hello m) = search rules
+messages_keep_rules (message.Stc m) = search rules
+messages_keep_rules (message.TreeStatus m) = search rules
 
 pub messages_are_short : MessagesAreShort
 messages_are_short (hello h) w = omega (arith, hellos_are_short h w)

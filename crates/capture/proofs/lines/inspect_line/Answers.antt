@@ -10,5 +10,5 @@ returns c =
     let spelt = sym c.in_ok-read_octets.ensures ∙ ap (option_map vec_items) c.in_ok-octets.ensures.ok_part ∙ ap Some (sym c.as_slice-octets.ensures.value) in
     let text =
     c.in_ok-format.ensures.ok
-    ∙ ap (λ l. message_text c.in_ok-message.message ++ (codes " rewritten=" ++ l)) (c.rewrite-rewritten.ensures reads) in
+    ∙ ap (λ l. message_text c.in_ok-message.message ++ (codes " rewritten=" ++ l)) (c.rewrite-rewritten.ensures.same reads.1) in
     (xs, c.in_ok-message.message, spelt, reads, text)
