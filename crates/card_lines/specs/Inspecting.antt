@@ -1,5 +1,5 @@
 -- What a line is shown as.
-use Rattle.std.specs.Prelude.{◌≡◌, ℕ, ⊤, Bool, true, false, ◌&&◌, List, ◌++◌, length, drop, String, Some, None, Ok, Err, Result, string_bytes, codes, ◌==◌, nat_le, slice_index}
+use Rattle.std.specs.Prelude.{◌≡◌, ℕ, ⊤, Bool, true, false, List, ◌++◌, take, drop, String, Some, None, Ok, Err, Result, string_bytes, codes, bytes_eq}
 use Rattle.std.specs.Global.{Global}
 use Rattle.card.specs.Cards.{ReadsCard}
 use Rattle.capture.specs.Hexadecimal.{spelt}
@@ -10,10 +10,8 @@ use Rattle.record.specs.Records.{state}
 use Rattle.record.specs.declared.records.Record.{Record}
 use Rattle.record_text.specs.Texts.{record_text}
 
--- the letters c, a, r and d
 abbrev pub begins_card : List ℕ → Bool
-begins_card line =
-    nat_le 4 (length line) && (slice_index line 0 == 99 && (slice_index line 1 == 97 && (slice_index line 2 == 114 && slice_index line 3 == 100)))
+begins_card line = bytes_eq (take 4 line) (codes "card")
 
 -- a line whose octets are a card; one that is no list of octets; one whose octets are refused
 abbrev pub InspectsCard : List ℕ → Result (String Global) LineFault → Type 0
