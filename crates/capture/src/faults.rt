@@ -51,8 +51,8 @@ impl TryFrom<LineFault> for u8 {
         match fault {
             LineFault::NoMemory(error) => Err(error),
             LineFault::NoOctets => Ok(0),
-            LineFault::NoMessage(fault) => Ok(fault.into()),
-            LineFault::NoRecord(fault) => Ok(fault.into()),
+            LineFault::NoMessage(read) => Ok(read.into()),
+            LineFault::NoRecord(unlawful) => Ok(unlawful.into()),
         }
     }
 }
