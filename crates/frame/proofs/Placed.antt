@@ -1,7 +1,7 @@
 -- Fields at their places, and the octets that they are written as.
 use Rattle.std.proofs.Common.{◌≡◌, ℕ, List, [], ◌∷◌, length, drop, sym, ap, ◌∙◌, arith}
 use Rattle.std.proofs.lemmas.List.{drop_all}
-use Rattle.frame.specs.Octets.{stc_fields}
+use Rattle.frame.specs.Octets.{stc_fields, tree_status_fields}
 use Rattle.frame.specs.Reading.{stc_at, tree_status_at}
 use Rattle.frame.specs.Values.{StcValues, TreeStatusValues}
 use Rattle.field.specs.Wide.{at, wide_at}
@@ -14,6 +14,12 @@ module _ (xs : List ℕ) (octets : Octets xs) where
       wide_places xs octets 0 _ (wide_places xs octets 2 _ (wide_places xs octets 4 _ (wide_places xs octets 6 _ (wide_places xs octets 8 _
       (ap (λ l. at xs 10 ∷ at xs 11 ∷ at xs 12 ∷ l) (wide_places xs octets 13 _ end))))))
       ∙ sym (by_places 15 0 xs (omega arith))
+
+  pub tree_status_placed : length xs ≡ 11 → tree_status_fields (tree_status_at xs) ≡ xs
+  tree_status_placed n =
+      let end : [] ≡ drop 11 xs = sym (drop_all 11 xs (omega arith)) in
+      wide_places xs octets 0 _ (wide_places xs octets 2 _ (wide_places xs octets 4 _ (wide_places xs octets 6 _ (wide_places xs octets 8 _ (ap (λ l. at xs 10 ∷ l) end)))))
+      ∙ sym (by_places 11 0 xs (omega arith))
 
 -- values are those at their places if each is
 module _ (xs : List ℕ) where

@@ -1,7 +1,6 @@
 // Octets taken apart into the groups of a Hello.
 ghost use Rattle.std.specs.Prelude.{◌≡◌};
 ghost use Rattle.field.specs.Codes.{link_code};
-ghost use Rattle.field.specs.Wide.{numbers};
 ghost use Rattle.hello_groups.specs.Listed.{addresses};
 ghost use Rattle.hello_groups.specs.Splitting.{is_size, front, after, left_over, sym_in, asym_in};
 
@@ -25,18 +24,14 @@ fn is_size(size: usize, most: usize) -> bool
 
 // The addresses of the group of this code at the front, and the octets behind it.
 fn split_group(octets: &[u8], code: LinkCode) -> (Addresses<'_>, &[u8])
-    ensures front { addresses result.0 ≡ numbers (front (link_code code) octets.now) }
+    ensures front { result.0.octets.now ≡ front (link_code code) octets.now }
     ensures behind { result.1.now ≡ after (link_code code) octets.now }
 {
     match octets {
         [first, size, ..] if *first == u8::from(code) && is_size(*size as usize, octets.len()) => {
             let (group, rest) = octets.split_at(*size as usize);
-            (
-                Addresses {
-                    octets: &group[2..],
-                },
-                rest,
-            )
+            let octets = &group[2..];
+            (Addresses { octets }, rest)
         }
         _ => (Addresses { octets: &[] }, octets),
     }
