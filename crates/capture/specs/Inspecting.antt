@@ -1,10 +1,10 @@
 -- What a line is shown as.
-use Rattle.std.specs.Prelude.{◌≡◌, ℕ, ⊤, List, ◌++◌, String, Some, None, Ok, Err, Result, string_bytes, codes, decimal}
+use Rattle.std.specs.Prelude.{◌≡◌, ℕ, ⊤, List, ◌++◌, String, Some, None, Ok, Err, Result, string_bytes, codes, IsSome}
 use Rattle.std.specs.Global.{Global}
 use Rattle.frame.specs.Reading.{Reads}
 use Rattle.frame.specs.declared.messages.Message.{Message}
 use Rattle.capture.specs.Hexadecimal.{spelt}
-use Rattle.capture.specs.Refusals.{refusal_number}
+use Rattle.capture.specs.Refusals.{refusal_number, fault_text}
 use Rattle.message_text.specs.Texts.{message_text}
 use Rattle.capture.specs.declared.faults.LineFault.{LineFault}
 use Rattle.capture.specs.declared.faults.LineFault.TheVariants.{NoMemory, NoOctets, NoMessage, NoRecord}
@@ -18,7 +18,7 @@ Inspects line (Err (NoMessage f)) = (xs : List ℕ) × (spelt line ≡ Some xs) 
 Inspects line (Err (NoRecord f)) = ⊥
 Inspects line (Err (NoMemory e)) = ⊤
 
--- the text, or the number of the refusal
+-- the text, or the refusal; want of memory is neither
 abbrev pub Shows : Result (String Global) LineFault → List ℕ → Type 0
 Shows (Ok text) shown = shown ≡ string_bytes text
-Shows (Err fault) shown = (n : ℕ) × (refusal_number fault ≡ Some n) × (shown ≡ codes "? " ++ decimal n)
+Shows (Err fault) shown = IsSome (refusal_number fault) × (shown ≡ fault_text fault)

@@ -1,11 +1,12 @@
-ghost use Rattle.std.specs.Prelude.{◌≡◌};
+ghost use Rattle.std.specs.Prelude.{◌≡◌, Some};
 ghost use Rattle.capture.specs.declared.faults.LineFault.TheVariants.{NoMemory, NoMessage, NoRecord};
 ghost use Rattle.std.specs.Result.{result_ok};
-ghost use Rattle.capture.specs.Refusals.{refusal_number};
+ghost use Rattle.capture.specs.Refusals.{refusal_number, fault_text};
 
 use frame::ReadFault;
 use record::RecordFault;
 use std::alloc::AllocError;
+use std::fmt;
 
 // Why a line is not shown.
 #[derive(Clone, Copy, PartialEq, Eq)]
@@ -53,6 +54,17 @@ impl TryFrom<LineFault> for u8 {
             LineFault::NoOctets => Ok(0),
             LineFault::NoMessage(read) => Ok(read.into()),
             LineFault::NoRecord(unlawful) => Ok(unlawful.into()),
+        }
+    }
+}
+
+impl fmt::Display for LineFault {
+    ghost output = { λ fault. Some (fault_text fault) };
+
+    fn fmt<W: fmt::Write>(&self, f: &mut fmt::Formatter<W>) -> fmt::Result {
+        match u8::try_from(*self) {
+            Ok(number) => write!(f, "? {number}"),
+            Err(_) => f.write_str("no memory"),
         }
     }
 }

@@ -24,9 +24,7 @@ pub fn show(heap: Global, inspected: Result<String, LineFault>) -> Result<String
 {
     match inspected {
         Ok(text) => Ok(text),
-        Err(fault) => {
-            let number = u8::try_from(fault)?;
-            format!(in heap; "? {number}")
-        }
+        Err(LineFault::NoMemory(error)) => Err(error),
+        Err(refusal) => refusal.to_string(heap),
     }
 }
