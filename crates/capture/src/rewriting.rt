@@ -12,6 +12,7 @@ pub fn rewrite(message: Message<'_>, octets: &[u8]) -> &'static str
     ensures same { octets_of (values message.entry) ≡ octets.now → result.now ≡ codes "same" }
     ensures different { octets_of (values message.entry) ≢ octets.now → result.now ≡ codes "different" }
 {
+    // `write` fills memory that it is handed, as on a gauge
     let mut out = [0; MOST_OCTETS];
     let len = message.write(&mut out).unwrap_or(0);
     compare(&out[..len], octets)

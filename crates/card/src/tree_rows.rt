@@ -28,6 +28,7 @@ impl CardRow<TREE_OCTETS> for TreeRow {
 
     ghost fits = { Prim.search rules };
 
+    // Octet by octet, as `read` takes them: what writes field by field has a place to count.
     fn octets(&self) -> [u8; TREE_OCTETS] {
         let [r1, r0] = two_octets(self.root.0);
         let [w1, w0] = two_octets(self.wave.0);

@@ -21,6 +21,7 @@ impl From<Kind> for u8 {
     }
 }
 
+// By hand, as for `EnergyClass`.
 impl TryFrom<u8> for Kind {
     type Error = UnknownKind;
 

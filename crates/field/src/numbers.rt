@@ -14,7 +14,7 @@ pub struct NoAddress;
 // The cost of a way to a root.
 pub type Cost = u16;
 
-// Counts the waves of one root.
+// Counts the waves of one root. A type of its own beside the next, since no step compares the two.
 #[derive(Clone, Copy, PartialEq, Eq, Debug)]
 pub struct WaveNumber(pub u16);
 
@@ -45,7 +45,8 @@ impl Address {
     }
 }
 
-// A number in two octets, the high one first.
+// A number in two octets, the high one first. One function for both widths would have an array for its result whose
+// length is computed, which Rattle has not.
 pub fn two_octets(number: u16) -> [u8; 2]
     ensures { result ≡ wide number [] }
 {

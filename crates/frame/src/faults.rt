@@ -39,6 +39,7 @@ impl From<UnknownClass> for ReadFault {
     }
 }
 
+// One impl a fault: `u8` takes no impl for every fault, nor by a macro of one's own.
 impl From<ReadFault> for u8 {
     ghost from_gives = { λ fault number. number ≡ read_fault_number fault };
 

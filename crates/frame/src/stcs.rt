@@ -87,6 +87,7 @@ impl Kept<StcFields> {
         })
     }
 
+    // Octet by octet, as `read` takes them: what writes field by field has a place to count.
     pub(crate) fn octets(self) -> [u8; 17]
         ensures { result ≡ octets (stc (stc_values self.fields)) }
     {

@@ -22,6 +22,7 @@ pub enum TimeFault {
     OutOfRange = 8,
 }
 
+// One impl a fault: `u8` takes no impl for every fault, nor by a macro of one's own.
 impl From<RecordFault> for u8 {
     ghost from_gives = { λ fault number. number ≡ record_fault_number fault };
 
