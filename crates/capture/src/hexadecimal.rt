@@ -39,6 +39,7 @@ pub fn read_octets(heap: Global, line: &[u8]) -> Result<Option<Vec<u8>>, AllocEr
         let [_, second, rest @ ..] = left else {
             return Ok(None);
         };
+        // no `?`: a line that is no list of octets is an answer, and want of memory the error
         let Some(octet) = octet_of(*first, *second) else {
             return Ok(None);
         };

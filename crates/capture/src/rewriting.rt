@@ -18,6 +18,7 @@ pub fn rewrite(message: Message<'_>, octets: &[u8]) -> &'static str
     compare(&out[..len], octets)
 }
 
+// The word of a comparison: two, which a type with a `Display` of its own would only surround.
 pub fn compare(written: &[u8], read: &[u8]) -> &'static str
     ensures same { written.now ≡ read.now → result.now ≡ codes "same" }
     ensures different { written.now ≢ read.now → result.now ≡ codes "different" }

@@ -81,6 +81,7 @@ impl fmt::Display for OfferText<'_> {
     }
 }
 
+// Two words, which a type with a `Display` of its own would only surround.
 fn owed_name(owed: bool) -> &'static str
     ensures { result.now ≡ owed_text owed }
 {

@@ -1,7 +1,7 @@
 ghost use Rattle.std.specs.Prelude.{◌≡◌, ℕ};
 ghost use Rattle.table.specs.Keys.{found, apart};
 
-// A row that is known by a number.
+// A row that is known by a number. A trait and no closure, since a row has one key, which contracts name.
 pub trait Keyed: Copy {
     ghost keyed: { Self → ℕ };
 

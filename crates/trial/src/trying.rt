@@ -14,6 +14,7 @@ where
     let mut tally = Tally::new();
     for text in BufReader::new(rt.alloc(), rt.reader())?.lines(rt.alloc()) {
         let text = text?;
+        // no `?`: what is no row is told, and the next row is tried
         let Some(Row { about, line, shown }) = Row::read(text.as_str()) else {
             println!(rt; "no row: {text}")?;
             tally = tally.count(false);
