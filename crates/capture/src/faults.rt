@@ -8,7 +8,7 @@ use record::RecordFault;
 use std::alloc::AllocError;
 use std::fmt;
 
-// Why a line is not shown.
+// Why a line is not shown: one enum for lines of messages and of cards, so that `?` serves both.
 #[derive(Clone, Copy, PartialEq, Eq)]
 pub enum LineFault {
     NoMemory(AllocError),
@@ -50,7 +50,7 @@ impl TryFrom<LineFault> for u8 {
 
     fn try_from(fault: LineFault) -> Result<u8, AllocError> {
         match fault {
-            LineFault::NoMemory(error) => Err(error),
+            LineFault::NoMemory(none) => Err(none),
             LineFault::NoOctets => Ok(0),
             LineFault::NoMessage(read) => Ok(read.into()),
             LineFault::NoRecord(unlawful) => Ok(unlawful.into()),

@@ -43,6 +43,7 @@ fn record_of(octets: &[u8]) -> Option<Record>
     .ok()
 }
 
+// Octet by octet, as `record_of` takes them.
 fn head_of(held: &Record) -> [u8; HEAD_OCTETS]
     ensures { result ≡ headed (state held.now) [] }
 {

@@ -1,4 +1,4 @@
-ghost use Rattle.std.specs.Prelude.{◌≡◌, ℕ, ◌<◌, ◌≤◌, ◌^◌, Bool, true, List, ◌++◌, length, MatchOption, ◌≢◌};
+ghost use Rattle.std.specs.Prelude.{◌≡◌, ℕ, ◌<◌, ◌≤◌, ◌^◌, Bool, true, List, length, MatchOption, ◌≢◌};
 ghost use Rattle.card.specs.Octets.{joined, BeginsWith};
 ghost use Rattle.card.specs.Placing.{placed};
 ghost use Rattle.std.specs.List.{list_all};

@@ -17,6 +17,7 @@ impl CardRow<NEIGHBOUR_OCTETS> for NeighbourRow {
 
     ghost fits = { Prim.search rules };
 
+    // Octet by octet, as `read` takes them: what writes field by field has a place to count.
     fn octets(&self) -> [u8; NEIGHBOUR_OCTETS] {
         let [a1, a0] = two_octets(self.address.0);
         let [s3, s2, s1, s0] = four_octets(self.sym_until);

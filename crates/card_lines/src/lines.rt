@@ -15,7 +15,8 @@ pub fn inspect(heap: Global, line: &[u8]) -> Result<String, LineFault>
     }
 }
 
-// The record whose card the line spells, with its fields, and whether it is written again as it was read.
+// The record whose card the line spells, with its fields, and whether it is written again as it was read. Beside
+// `inspect_line`: each line calls what is of records alone, and one trait for both would have a method for each line.
 fn inspect_card(heap: Global, line: &[u8]) -> Result<String, LineFault>
     ensures { InspectsCard line.now result }
 {

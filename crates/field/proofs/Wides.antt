@@ -81,7 +81,3 @@ module _ (xs : List ℕ) (octets : Octets xs) where
       let high : long_at xs i / 65536 ≡ wide_at xs i = omega arith in
       let low : long_at xs i % 65536 ≡ wide_at xs (i + 2) = omega arith in
       ap₂ (λ h l. wide h (wide l more)) high low ∙ wide_places i _ (wide_places (i + 2) more same)
-
--- type and size before the fields
-pub headed : (k size kind : ℕ) {xs ys : List ℕ} → k ≡ kind → xs ≡ ys → k ∷ size ∷ xs ≡ kind ∷ size ∷ ys
-headed k size kind e same = cc

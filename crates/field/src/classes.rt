@@ -21,7 +21,7 @@ impl From<EnergyClass> for u8 {
     }
 }
 
-// By hand, as for `Kind`: no derive reads a code, and Rattle refuses an impl by a macro of one's own.
+// By hand, as for `Kind`: no derive reads a code, and an impl by a macro of one's own cannot say `try_from_gives`.
 impl TryFrom<u8> for EnergyClass {
     type Error = UnknownClass;
 

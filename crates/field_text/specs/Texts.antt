@@ -14,8 +14,8 @@ list_text separator [] = codes "none"
 list_text separator (first ∷ more) = first ++ flat_map (λ item. separator ++ item) more
 
 -- show tells what is written of each item
-abbrev pub Shows : {X : Type 0} → (X → Option (List ℕ)) → (X → List ℕ) → Type 0
-Shows {X} output show = (x : X) → output x ≡ Some (show x)
+abbrev pub WrittenAs : {X : Type 0} → (X → Option (List ℕ)) → (X → List ℕ) → Type 0
+WrittenAs {X} output show = (x : X) → output x ≡ Some (show x)
 
 abbrev pub flag_text : Flag → List ℕ
 flag_text Coloured = codes "coloured"

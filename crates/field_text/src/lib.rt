@@ -5,4 +5,4 @@ mod lists;
 mod texts;
 
 pub use lists::write_list;
-pub use texts::{ClassText, FlagsText, ParentText};
+pub use texts::{ClassText, FlagsText, ParentText, class_name};

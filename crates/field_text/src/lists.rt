@@ -1,7 +1,7 @@
 ghost use Rattle.std.specs.Prelude.{List, ℕ, map, IsOk};
 ghost use Rattle.std.specs.Iterator.{Drains, IsFinite};
 ghost use Rattle.std.specs.Fmt.{WritesOnOk};
-ghost use Rattle.field_text.specs.Texts.{Shows, list_text};
+ghost use Rattle.field_text.specs.Texts.{WrittenAs, list_text};
 
 use std::fmt;
 
@@ -16,9 +16,10 @@ where
     requires can { I.can_next items }
     requires ends { IsFinite (I.remaining items) }
     ensures { IsOk result → (xs : List I.Item) × Drains I.next_gives items xs
-        × ((show : I.Item → List ℕ) → Shows I.Item.output show
+        × ((show : I.Item → List ℕ) → WrittenAs I.Item.output show
         → WritesOnOk W.write_str_gives f.old result (list_text separator.now (map show xs)) f.new) }
 {
+    // no `?`: an empty list is written too
     let Some(first) = items.next() else {
         return f.write_str("none");
     };

@@ -1,4 +1,4 @@
-ghost use Rattle.std.specs.Prelude.{Some};
+ghost use Rattle.std.specs.Prelude.{◌≡◌, Some};
 ghost use Rattle.field_text.specs.Texts.{flag_text, flags_text, class_text, parent_text};
 
 use crate::lists::write_list;
@@ -13,11 +13,17 @@ impl fmt::Display for ClassText {
     ghost output = { λ x. Some (class_text x.0) };
 
     fn fmt<W: fmt::Write>(&self, f: &mut fmt::Formatter<W>) -> fmt::Result {
-        f.write_str(match self.0 {
-            EnergyClass::High => "high",
-            EnergyClass::Medium => "medium",
-            EnergyClass::Low => "low",
-        })
+        f.write_str(class_name(self.0))
+    }
+}
+
+pub fn class_name(class: EnergyClass) -> &'static str
+    ensures { result.now ≡ class_text class }
+{
+    match class {
+        EnergyClass::High => "high",
+        EnergyClass::Medium => "medium",
+        EnergyClass::Low => "low",
     }
 }
 

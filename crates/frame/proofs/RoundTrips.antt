@@ -109,8 +109,6 @@ pub read_is_written : ReadIsWritten
 read_is_written xs m reads before now (Ok n) writes fits =
     let new = octets (values m) in
     let same : new ≡ xs = reads.1 in
-    let done = writes in
-    (ap Ok (done.0 ∙ ap length same), done.2 ∙ ap (λ l. l ++ drop (length l) before) same)
+    (ap Ok (writes.0 ∙ ap length same), writes.2 ∙ ap (λ l. l ++ drop (length l) before) same)
 read_is_written xs m reads before now (Err OutputTooShort) writes fits =
-    let refused = writes in
-    absurd (omega (arith, refused.0, ap length reads.1))
+    absurd (omega (arith, writes.0, ap length reads.1))

@@ -70,7 +70,7 @@ abbrev pub Says : Result Message ReadFault → Values → Type 0
 Says (Ok m) v = values m ≡ v
 Says (Err f) v = ⊥
 
--- ---- the kinds, once type and size octet are known
+-- ---- the kinds, once type and size octet are known; `kept` is what a message's ghost field says, and matters to none of these
 
 abbrev pub ReadsHello : {kept : _} → List ℕ → Result (Kept HelloFields kept) ReadFault → Type 0
 ReadsHello xs (Ok m) = HelloRules (hello_values m.fields) × (7 ≤ length xs) × (hello_octets (hello_values m.fields) ≡ 1 ∷ length xs ∷ drop 2 xs)

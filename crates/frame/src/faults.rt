@@ -39,7 +39,7 @@ impl From<UnknownClass> for ReadFault {
     }
 }
 
-// One impl a fault: `u8` takes no impl for every fault, nor by a macro of one's own.
+// One impl a fault: `u8` takes none for every fault, and an impl by a macro of one's own cannot say `from_gives`.
 impl From<ReadFault> for u8 {
     ghost from_gives = { λ fault number. number ≡ read_fault_number fault };
 

@@ -1,4 +1,3 @@
-ghost use Rattle.std.specs.Prelude.{◌≡◌};
 ghost use Rattle.std.proofs.Props.{props};
 ghost use Rattle.hello_groups.proofs.Grouping.{grouped_prop};
 ghost use Rattle.frame.specs.Faults.{BreaksHello};
@@ -9,6 +8,9 @@ use super::faults::{ReadFault, WriteFault};
 use super::kept::{Fields, Kept};
 use field::{Address, EnergyClass, Kind, two_octets};
 use hello_groups::Groups;
+
+// The octets before the groups.
+const FIXED_OCTETS: usize = 7;
 
 // Who the sender is and whom it hears.
 #[derive(Clone, Copy)]
@@ -70,7 +72,7 @@ impl<'a> Kept<HelloFields<'a>> {
         let fields = self.fields();
         let Groups(groups) = fields.groups;
         // at most 43, by the rules
-        let len = 7 + groups.len();
+        let len = FIXED_OCTETS + groups.len();
         if out.len() < len {
             return Err(WriteFault::OutputTooShort);
         }
@@ -84,8 +86,8 @@ impl<'a> Kept<HelloFields<'a>> {
             fields.vtime,
             fields.class.into(),
         ];
-        out[0..7].copy_from_slice(&head);
-        out[7..len].copy_from_slice(groups);
+        out[0..FIXED_OCTETS].copy_from_slice(&head);
+        out[FIXED_OCTETS..len].copy_from_slice(groups);
         Ok(len)
     }
 }

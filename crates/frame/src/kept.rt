@@ -20,6 +20,7 @@ pub trait Fields: Copy {
 }
 
 // A message: fields that keep the rules of their kind.
+#[derive(Copy)]
 pub struct Kept<F: Fields> {
     fields: F,
     ghost rules: { F.kept fields } by { F.kept_once fields },
@@ -40,7 +41,7 @@ impl<F: Fields> Kept<F> {
     }
 }
 
-// By hand, since no derive is to be had for a generic struct with a ghost field.
+// By hand, since no derive of `Clone` is to be had for a generic struct with a ghost field.
 impl<F: Fields> Clone for Kept<F> {
     ghost is_clone = { λ x y. y ≡ x };
 
@@ -50,5 +51,3 @@ impl<F: Fields> Clone for Kept<F> {
         Ok(*self)
     }
 }
-
-impl<F: Fields> Copy for Kept<F> {}

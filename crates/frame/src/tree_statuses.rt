@@ -59,6 +59,7 @@ impl Kept<TreeStatusFields> {
         })
     }
 
+    // Octet by octet, as `read` takes them: what writes field by field has a place to count.
     pub(crate) fn octets(self) -> [u8; 13]
         ensures { result ≡ octets (tree_status (tree_status_values self.fields)) }
     {

@@ -1,6 +1,6 @@
 -- Groups as octets, and the lists that they are read as.
 use Rattle.std.proofs.Common.{◌≡◌, ℕ, ◌+◌, ◌-◌, ◌*◌, ◌/◌, ◌%◌, ◌≤◌, Bool, true, false, ◌&&◌, eqb, leb, List, [], ◌∷◌, ◌++◌, length, take, drop, MatchBool, sym, refl, ap, ◌∙◌, subst, inl, inr, arith, length-append, length-drop}
-use Rattle.std.proofs.lemmas.List.{append-nil, take_at, drop_at, take-append-drop, length-take-le, drop-drop}
+use Rattle.std.proofs.lemmas.List.{append-nil, nil_from_length, take_at, drop_at, take-append-drop, length-take-le, drop-drop}
 use Rattle.std.proofs.lemmas.Bool.{and_parts, and_from, and_right, cond-true, cond-false, cond_both, le-leb, eq-eqb, leb-true, eqb-true, cases_Bool, both_ways}
 use Rattle.hello_groups.proofs.Distinct.{new_append, new_given, new_distinct, are_new}
 use Rattle.field.proofs.Wides.{Octets, octets_take, octets_drop, first_two, numbers_wides, length_wides, wides_numbers, length_numbers}
@@ -93,10 +93,6 @@ tested_from xs g =
 
 -- ---- from octets to lists
 
-length_none : (xs : List ℕ) → length xs ≡ 0 → xs ≡ []
-length_none [] h = refl
-length_none (x ∷ xs) h = absurd (omega arith)
-
 group_some : (code : ℕ) (l : List ℕ) → 1 ≤ length l → group code l ≡ code ∷ (2 + 2 * length l) ∷ wides l
 group_some code [] h = absurd (omega arith)
 group_some code (a ∷ more) h = refl
@@ -163,7 +159,7 @@ tested_says xs octets test =
     let p = and_parts (eqb empty 0) (leb count 16 && (all_new s a && all_new a [])) test in
     let q = and_parts (leb count 16) (all_new s a && all_new a []) p.1 in
     let new : all_new (s ++ a) [] ≡ true = new_append s a ∙ q.1 in
-    let none : left_over xs ≡ [] = length_none (left_over xs) (eqb-true empty 0 p.0) in
+    let none : left_over xs ≡ [] = nil_from_length (left_over xs) (eqb-true empty 0 p.0) in
     let second : group 2 a ≡ after 1 xs =
     sym (append-nil (group 2 a)) ∙ ap (λ l. group 2 a ++ l) (sym none) ∙ rejoins 2 (after 1 xs) (after_octets 1 xs octets) in
     (s, a, record { few = leb-true count 16 q.0; given = new_given (s ++ a) new; distinct = new_distinct (s ++ a) new }, ap (λ l. group 1 s ++ l) second ∙ rejoins 1 xs octets)

@@ -10,6 +10,7 @@ use crate::cost_law::CostLaw;
 use crate::costs::as_cost;
 use crate::listeners::Listener;
 use field::{Address, Cost, EnergyClass};
+use record::LawNumber;
 
 // A link costs what the node that hears over it and its symmetric neighbours weigh.
 #[derive(Clone, Copy)]
@@ -18,7 +19,7 @@ pub struct EnergyLaw;
 impl CostLaw for EnergyLaw {
     type Measure = u16;
 
-    const NUMBER: u8 = 1;
+    const NUMBER: u8 = LawNumber::Energy as u8;
 
     ghost NUMBER = { law_number Energy };
 

@@ -9,7 +9,7 @@ ghost use Rattle.std.proofs.lemmas.Bool.Decides.{nat_tests};
 use crate::cost_law::CostLaw;
 use crate::listeners::Listener;
 use field::{Address, Cost};
-use record::Neighbours;
+use record::{LawNumber, Neighbours};
 use table::find;
 
 const MOST_HOPS: Cost = 255;
@@ -21,7 +21,7 @@ pub struct HopLaw;
 impl CostLaw for HopLaw {
     type Measure = u8;
 
-    const NUMBER: u8 = 2;
+    const NUMBER: u8 = LawNumber::Hops as u8;
 
     ghost NUMBER = { law_number Hops };
 

@@ -74,6 +74,7 @@ impl fmt::Display for StcText {
 }
 
 // The front of an STC: the way to the root that it offers.
+// A type of its own, since no proof is found of one format with so many holes.
 #[derive(Clone, Copy)]
 struct OfferText(StcFields);
 

@@ -22,7 +22,7 @@ pub enum TimeFault {
     OutOfRange = 8,
 }
 
-// One impl a fault: `u8` takes no impl for every fault, nor by a macro of one's own.
+// One impl a fault: `u8` takes none for every fault, and an impl by a macro of one's own cannot say `from_gives`.
 impl From<RecordFault> for u8 {
     ghost from_gives = { λ fault number. number ≡ record_fault_number fault };
 
@@ -42,7 +42,7 @@ impl From<SettingsFault> for u8 {
 impl From<UnknownLaw> for SettingsFault {
     ghost from_gives = { λ _ fault. fault ≡ OutOfRange };
 
-    fn from(_unknown: UnknownLaw) -> SettingsFault {
+    fn from(_: UnknownLaw) -> SettingsFault {
         SettingsFault::OutOfRange
     }
 }

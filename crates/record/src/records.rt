@@ -81,7 +81,7 @@ impl Record {
     }
 }
 
-// Beside `are_lawful_trees`: the two differ in what a row is tested by.
+// Beside `are_lawful_trees`: one function that takes the test as a closure would be longer than both.
 fn are_lawful_neighbours(rows: &[NeighbourRow], own: Address) -> bool
     ensures { result ≡ lawful_neighbours own.0 rows.now }
 {

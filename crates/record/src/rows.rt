@@ -3,7 +3,7 @@ ghost use Rattle.record.specs.Lawful.{lawful_neighbour, lawful_tree};
 ghost use Rattle.record.specs.Settling.{heard, held, lapses, lapsed};
 ghost use Rattle.record.specs.Symmetry.{symmetric, linked};
 
-use field::{Address, Cost, EnergyClass, Flag, Flags, TreeSequenceNumber, WaveNumber};
+use field::{Address, Cost, EnergyClass, Flags, TreeSequenceNumber, WaveNumber};
 use table::{Keyed, Table, find};
 
 // The longest hold after the last time.
@@ -114,7 +114,8 @@ impl TreeRow {
             && (!self.owed || self.ttl > 0)
     }
 
-    // Whether there is a parent, and it is a symmetric neighbour.
+    // Whether there is a parent, and it is a symmetric neighbour. Neighbours and time go on through three short methods, each of
+    // which would take a struct of the two apart again.
     fn is_held(&self, near: &[NeighbourRow], time: u32) -> bool
         ensures { result ≡ held near.now time self.now.parent }
     {

@@ -16,7 +16,7 @@ pub struct UnknownLaw(pub u16);
 impl TryFrom<u16> for LawNumber {
     type Error = UnknownLaw;
 
-    ghost try_from_gives = { λ number result. MatchResult result (λ law. law_number law ≡ number) (λ unknown. (IsLaw number → ⊥) × (unknown.0 ≡ number)) };
+    ghost try_from_gives = { λ number result. MatchResult result (λ law. law_number law ≡ number) (λ unknown. (unknown.0 ≡ number) × (IsLaw number → ⊥)) };
 
     fn try_from(number: u16) -> Result<LawNumber, UnknownLaw> {
         match number {

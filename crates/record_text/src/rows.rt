@@ -58,6 +58,7 @@ impl fmt::Display for TreeText<'_> {
 }
 
 // The front of a row of trees: the way to the root.
+// A type of its own, since no proof is found of one format with so many holes.
 #[derive(Clone, Copy)]
 struct OfferText<'a>(&'a TreeRow);
 

@@ -1,9 +1,9 @@
 -- The rows of a table, over the list of its places.
-use Rattle.std.proofs.Common.{◌≡◌, ℕ, suc, ◌+◌, ◌-◌, ◌<◌, ◌≤◌, List, ◌++◌, length, take, drop, sym, ap, ap₂, ◌∙◌, add-one, append_assoc, append-nil, length-append, length-drop, arith}
+use Rattle.std.proofs.Common.{◌≡◌, ℕ, zero, suc, ◌+◌, ◌-◌, ◌<◌, ◌≤◌, List, [], ◌∷◌, ◌++◌, length, take, drop, set, sym, refl, ap, ap₂, ◌∙◌, add-one, append_assoc, append-nil, length-append, length-drop, arith}
 use borrow.Rule.Slice.PartMut.{mid_of, post_of, put_mid, mid_len}
 use Rattle.std.specs.List.{remove}
 use Rattle.std.proofs.lemmas.List.{length-take-le, take-take, drop-take, drop-drop, take_at, take_all, drop_all}
-use Rattle.table.specs.Rows.{rows}
+use Rattle.table.specs.Rows.{rows, altered}
 use Rattle.table.specs.declared.tables.Table.{Table}
 
 module _ {T : Type 0} where
@@ -24,7 +24,17 @@ module _ {T : Type 0} where
   pub removed_past : (xs : List T) (i : ℕ) → length xs ≤ i → remove xs i ≡ xs
   removed_past xs i le = ap (λ l. l ++ drop (suc i) xs) (take_all i xs le) ∙ ap (λ l. xs ++ l) (drop_all (suc i) xs (omega arith)) ∙ append-nil xs
 
+  pub take_of_set : (n : ℕ) (xs : List T) (i : ℕ) (w : T) → take n (set xs i w) ≡ set (take n xs) i w
+  take_of_set zero xs i w = refl
+  take_of_set (suc n) [] i w = refl
+  take_of_set (suc n) (x ∷ xs) zero w = refl
+  take_of_set (suc n) (x ∷ xs) (suc i) w = ap (λ l. x ∷ l) (take_of_set n xs i w)
+
 module _ {T : Type 0} {N : ℕ} where
+  -- the table's rows, once the row that it lent was written
+  pub rows_altered : (t : Table T N) (i : ℕ) (w : T) → rows (altered t i w) ≡ set (rows t) i w
+  rows_altered t i w = take_of_set t.count t.items i w
+
   pub rows_within : (t : Table T N) → length (rows t) ≡ t.count
   rows_within t = length-take-le t.count t.items (omega (arith, t.within, t.whole))
 

@@ -115,8 +115,8 @@ impl<T: Copy, const N: usize> Table<T, N> {
         }
     }
 
-    // Changes each row in its place. It takes a closure, since a slice that is lent would owe `whole` at a list of any
-    // length.
+    // Changes each row in its place. A closure, since no proof is found of a table that lends all its rows at once: `whole`
+    // would have to hold of whatever list comes back.
     pub fn update<F: Fn(&mut T)>(&mut self, change: F)
         requires { F.IsAlwaysCallable change }
         ensures { AllZip (λ x y. FnOnceReturnsAtMut F.FnOnce change x tt y) (rows self.old) (rows self.new) }

@@ -25,7 +25,7 @@ impl Tally {
     {
         Tally {
             rows: self.rows.saturating_add(1),
-            right: self.right.saturating_add(right as u64),
+            right: self.right.saturating_add(u64::from(right)),
         }
     }
 }
