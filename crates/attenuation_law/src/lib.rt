@@ -21,6 +21,7 @@ pub struct AttenuationLaw;
 impl CostLaw for AttenuationLaw {
     type Measure = Attenuation;
 
+    // no case of `LawNumber`, which has the laws that settings know
     const NUMBER: u8 = 3;
 
     ghost NUMBER = { 3 };

@@ -44,7 +44,7 @@ pub fn read_rows<R: CardRow<W>, const W: usize, const N: usize>(
 }
 
 // Fills the front of the output with the rows; the rest remains. By places, since no proof knows what is left by a write
-// through `chunks_exact_mut`, or through a `&mut` that a loop moves on.
+// through `chunks_exact_mut`, or through a `&mut` that is moved on from row to row.
 #[tactic(auto, using(crate::proofs::Joined::joined_part))]
 pub fn put_rows<R: CardRow<W>, const W: usize>(all: &[R], out: &mut [u8])
     requires { length (joined R.CardRow.written all.now) ≤ length out.old }

@@ -13,6 +13,8 @@ pub enum EnergyClass {
 #[derive(Clone, Copy, PartialEq, Eq, Debug)]
 pub struct UnknownClass(pub u8);
 
+// By hand, as for `Kind` and `LinkCode`: no derive gives or reads a code, and an impl by a macro of one's own cannot say
+// `from_gives`.
 impl From<EnergyClass> for u8 {
     ghost from_gives = { λ class code. code ≡ class_code class };
 
@@ -21,7 +23,6 @@ impl From<EnergyClass> for u8 {
     }
 }
 
-// By hand, as for `Kind`: no derive reads a code, and an impl by a macro of one's own cannot say `try_from_gives`.
 impl TryFrom<u8> for EnergyClass {
     type Error = UnknownClass;
 

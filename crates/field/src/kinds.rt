@@ -13,6 +13,7 @@ pub enum Kind {
 #[derive(Clone, Copy, PartialEq, Eq, Debug)]
 pub struct UnknownKind(pub u8);
 
+// By hand, as for `EnergyClass`.
 impl From<Kind> for u8 {
     ghost from_gives = { λ kind code. code ≡ kind_code kind };
 
@@ -21,7 +22,6 @@ impl From<Kind> for u8 {
     }
 }
 
-// By hand, as for `EnergyClass`.
 impl TryFrom<u8> for Kind {
     type Error = UnknownKind;
 

@@ -8,6 +8,7 @@ pub enum LinkCode {
     Asym = 2,
 }
 
+// By hand, as for `EnergyClass`.
 impl From<LinkCode> for u8 {
     ghost from_gives = { λ link code. code ≡ link_code link };
 

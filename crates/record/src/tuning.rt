@@ -12,7 +12,7 @@ pub enum LawNumber {
 #[derive(Clone, Copy, PartialEq, Eq, Debug)]
 pub struct UnknownLaw(pub u16);
 
-// By hand, since no derive reads a number.
+// By hand, as for the codes of `field`: no derive reads a number.
 impl TryFrom<u16> for LawNumber {
     type Error = UnknownLaw;
 
