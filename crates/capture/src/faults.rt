@@ -50,7 +50,7 @@ impl TryFrom<LineFault> for u8 {
 
     fn try_from(fault: LineFault) -> Result<u8, AllocError> {
         match fault {
-            LineFault::NoMemory(none) => Err(none),
+            LineFault::NoMemory(want) => Err(want),
             LineFault::NoOctets => Ok(0),
             LineFault::NoMessage(read) => Ok(read.into()),
             LineFault::NoRecord(unlawful) => Ok(unlawful.into()),

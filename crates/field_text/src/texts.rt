@@ -17,6 +17,7 @@ impl fmt::Display for ClassText {
     }
 }
 
+// Cannot fail, which `fmt` can.
 pub fn class_name(class: EnergyClass) -> &'static str
     ensures { result.now ≡ class_text class }
 {
