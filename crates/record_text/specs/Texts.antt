@@ -1,6 +1,7 @@
 -- Records as text: each field by name, then the rows.
-use Rattle.std.specs.Prelude.{ℕ, Bool, cond, List, ◌++◌, map, codes, decimal}
-use Rattle.field_text.specs.Texts.{list_text, flags_text, class_text, parent_text}
+use Rattle.std.specs.Prelude.{ℕ, Bool, cond, List, ◌++◌, length, codes, decimal, ◌==◌}
+use Rattle.std.specs.List.{flat_map}
+use Rattle.field_text.specs.Texts.{flags_text, class_text, parent_text}
 use Rattle.record.specs.States.{State}
 use Rattle.record.specs.declared.rows.NeighbourRow.{NeighbourRow}
 use Rattle.record.specs.declared.rows.TreeRow.{TreeRow}
@@ -32,9 +33,13 @@ tree_text row =
     ++ (codes " tree=" ++ (decimal row.tree.0
     ++ (codes " owed=" ++ (owed_text row.owed ++ codes "]"))))))))))
 
+-- `none` in the place of an empty text
+abbrev pub or_none : List ℕ → List ℕ
+or_none text = cond (length text == 0) (codes "none") text
+
 -- one after the other
 abbrev pub rows_text : {X : Type 0} → (X → List ℕ) → List X → List ℕ
-rows_text text rows = list_text (codes "") (map text rows)
+rows_text text rows = or_none (flat_map text rows)
 
 unfoldable pub record_text : State → List ℕ
 record_text s =
