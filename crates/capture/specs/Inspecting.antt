@@ -18,6 +18,11 @@ Inspects line (Err (NoMessage f)) = (xs : List ℕ) × (spelt line ≡ Some xs) 
 Inspects line (Err (NoRecord f)) = ⊥
 Inspects line (Err (NoMemory e)) = ⊤
 
+-- the text, or what is printed of the fault
+abbrev pub shown_text : Result (String Global) LineFault → List ℕ
+shown_text (Ok text) = string_bytes text
+shown_text (Err fault) = fault_text fault
+
 -- the text, or the refusal; want of memory is neither
 abbrev pub Shows : Result (String Global) LineFault → List ℕ → Type 0
 Shows (Ok text) shown = shown ≡ string_bytes text

@@ -8,5 +8,5 @@ mod rewriting;
 
 pub use faults::LineFault;
 pub use hexadecimal::read_octets;
-pub use lines::{inspect_line, show};
+pub use lines::{Shown, inspect_line, show};
 pub use rewriting::compare;

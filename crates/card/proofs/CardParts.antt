@@ -1,8 +1,6 @@
 -- Head and rows of a card.
-use Rattle.std.proofs.Common.{◌≡◌, ℕ, true, List, [], ◌∷◌, ◌++◌, ◌+◌, ◌<◌, length, take, drop, Ok, Err, Result, sym, refl, ap, ◌∙◌, subst, ap₂, arith, take-append-drop, length-take-le}
-use Rattle.std.specs.Prelude.{MatchOption, ◌≢◌}
-use Rattle.std.specs.Result.{result_ok}
-use Rattle.std.proofs.lemmas.List.{drop_at, drop_all, append-nil, get_or_append_left}
+use Rattle.std.proofs.Common.{◌≡◌, ℕ, true, List, [], ◌∷◌, ◌++◌, ◌+◌, ◌*◌, ◌<◌, length, take, drop, Ok, Err, Result, sym, refl, ap, ◌∙◌, subst, ap₂, arith, take-append-drop, length-take-le, length-append}
+use Rattle.std.proofs.lemmas.List.{drop_at, drop_all, append-nil, nil_from_length, get_or_append_left}
 use Rattle.field.specs.Codes.{class_code}
 use Rattle.field.specs.Wide.{at, wide, wide_at, long, long_at}
 use Rattle.field.proofs.Wides.{Octets, octets_take, by_places, wide_places, long_places}
@@ -15,9 +13,10 @@ use Rattle.record.specs.declared.faults.RecordFault.TheVariants.{Unlawful}
 use Rattle.record.specs.declared.records.Record.{Record}
 use Rattle.record.specs.declared.rows.NeighbourRow.{NeighbourRow}
 use Rattle.record.specs.declared.rows.TreeRow.{TreeRow}
+use Rattle.card.specs.Cards.{ReadsCard}
 use Rattle.card.specs.Octets.{card, joined, BeginsWith, neighbour_octets, tree_octets}
 use Rattle.card.proofs.Joined.{joined_split}
-use Rattle.card.proofs.OneCard.{one_card, plain, record_plain}
+use Rattle.card.proofs.OneCard.{one_card, plain, record_plain, card_length, neighbours_length, trees_length}
 
 -- the first ten octets, and what is behind them
 abbrev pub Cut : List ℕ → List ℕ → List ℕ → Type 0
@@ -40,6 +39,20 @@ module _ (xs head rest : List ℕ) (cut : Cut xs head rest) where
       let split = joined_split neighbour_octets 12 (λ x. refl) s.neighbours near (joined tree_octets s.trees) left (at_head 8 (omega arith) ∙ sym begins.1) both in
       (append-nil (joined tree_octets s.trees) ∙ split.1, at_head 9 (omega arith))
 
+  -- ---- so the head says how many octets its rows take
+
+  pub rows_size : (s : State) → card s ≡ xs → length rest ≡ at head 8 * 12 + at head 9 * 17
+  rows_size s e =
+      let same = e ∙ whole in
+      let at_head : (i : ℕ) → i < 10 → at (card s) i ≡ at head i = λ i lt. ap (λ l. at l i) same ∙ get_or_append_left head rest 0 i (let n = ten in omega arith) in
+      omega (arith, card_length s, ap length e, cut.2, at_head 8 (omega arith), at_head 9 (omega arith))
+
+  -- and nothing stands behind the rows
+  pub none_left : (near : List NeighbourRow) (far : List TreeRow) (left more : List ℕ) → BeginsWith neighbour_octets rest (at head 8) near left → BeginsWith tree_octets left (at head 9) far more → length rest ≡ at head 8 * 12 + at head 9 * 17 → more ≡ []
+  none_left near far left more a b size =
+      nil_from_length more
+      (omega (arith, ap length a.0, a.1, ap length b.0, b.1, size, length-append (joined neighbour_octets near) left, length-append (joined tree_octets far) more, neighbours_length near, trees_length far))
+
   -- ---- a record whose fields stand at their places has that card
 
   pub card_is : Octets xs → (s : State) → s.address ≡ wide_at head 0 → class_code s.class ≡ at head 2 → s.number ≡ at head 3 → s.latest ≡ long_at head 4 → (left : List ℕ) → BeginsWith neighbour_octets rest (at head 8) s.neighbours left → BeginsWith tree_octets left (at head 9) s.trees [] → card s ≡ xs
@@ -56,12 +69,9 @@ module _ (xs head rest : List ℕ) (cut : Cut xs head rest) where
       ∙ sym (ap (λ q. q ++ rest) (by_places 10 0 head (omega arith)))
       ∙ sym whole
 
-pub none_left : (xs ys : List TreeRow) (octets : List ℕ) (count : ℕ) (rest : List ℕ) → BeginsWith tree_octets octets count xs [] → BeginsWith tree_octets octets count ys rest → [] ≡ rest
-none_left xs ys octets count rest a b = (joined_split tree_octets 17 (λ x. refl) xs ys [] rest (a.1 ∙ sym b.1) (a.0 ∙ sym b.0)).1
-
 -- ---- so making the record decides reading
 
-pub reads_made : (xs : List ℕ) (s : State) → card s ≡ xs → list_all plain s.trees ≡ true → (a : Result Record RecordFault) → MakesRecord s a → MatchOption (result_ok a) ((r : Record) → card (state r) ≢ xs) (λ r. card (state r) ≡ xs)
+pub reads_made : (xs : List ℕ) (s : State) → card s ≡ xs → list_all plain s.trees ≡ true → (a : Result Record RecordFault) → MakesRecord s a → ReadsCard xs a
 reads_made xs s e p (Ok r) made = ap card made.0 ∙ e
 reads_made xs s e p (Err Unlawful) made = λ r q. made (subst Lawful (one_card (state r) s (record_plain r) p (q ∙ sym e)) (lawful r)) where
   lawful : (r : Record) → Lawful (state r)

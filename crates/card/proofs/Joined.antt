@@ -1,5 +1,5 @@
 -- Rows of one width, one after the other.
-use Rattle.std.proofs.Common.{◌≡◌, ℕ, ◌+◌, ◌*◌, ◌<◌, ◌≤◌, Bool, true, List, [], ◌∷◌, ◌++◌, length, get_or, take, drop, sym, refl, ap, ◌∙◌, ap₂, add-mul, one-mul, zero-mul, arith, length-append, length-take-le, mul-le-mul_left}
+use Rattle.std.proofs.Common.{◌≡◌, ℕ, zero, suc, ◌+◌, ◌*◌, ◌<◌, ◌≤◌, Bool, true, List, [], ◌∷◌, ◌++◌, length, get_or, take, drop, sym, refl, ap, ◌∙◌, ap₂, add-mul, one-mul, zero-mul, arith, length-append, length-take-le, mul-le-mul_left}
 use Rattle.std.proofs.lemmas.List.{append_assoc, flat_map_more, take_more, take_at, drop_at}
 use Rattle.std.proofs.lemmas.Bool.{and_parts}
 use Rattle.std.specs.List.{list_all}
@@ -29,18 +29,26 @@ module _ {X : Type 0} (written : X → List ℕ) where
           sym (drop_at (joined written xs) behind k size) ∙ ap (drop k) e ∙ drop_at (joined written ys) left k (joined_length ys),
         )
 
-    -- where octets begin with some rows, and with as many and more, the next of these stands behind the first
-    pub joined_next : (had xs : List X) (left rest : List ℕ) → joined written xs ++ rest ≡ joined written had ++ left → length had < length xs → (z : X) × (written z ≡ take wide left) × (wide ≤ length left)
-    joined_next had [] left rest e lt = absurd (omega arith)
-    joined_next [] (x ∷ xs) left rest e lt =
+    -- what is left of some rows, unless nothing, begins with a row
+    pub joined_next : (xs : List X) (k : ℕ) (left : List ℕ) → joined written (drop k xs) ≡ left → 0 < length left → (z : X) × (k < length xs) × (written z ≡ take wide left) × (joined written (drop (suc k) xs) ≡ drop wide left)
+    joined_next [] zero left e some = absurd (omega (arith, ap length e))
+    joined_next [] (suc k) left e some = absurd (omega (arith, ap length e))
+    joined_next (x ∷ xs) zero left e some =
+        (x, omega arith, sym (take_at (written x) (joined written xs) wide (sized x)) ∙ ap (take wide) e, sym (drop_at (written x) (joined written xs) wide (sized x)) ∙ ap (drop wide) e)
+    joined_next (x ∷ xs) (suc k) left e some = let n = joined_next xs k left e some in (n.0, omega (arith, n.1), n.2, n.3)
+
+    -- likewise where other octets follow: where they begin with some rows, and with as many and more, the next of these stands behind the first
+    pub joined_behind : (had xs : List X) (left rest : List ℕ) → joined written xs ++ rest ≡ joined written had ++ left → length had < length xs → (z : X) × (written z ≡ take wide left) × (wide ≤ length left)
+    joined_behind had [] left rest e lt = absurd (omega arith)
+    joined_behind [] (x ∷ xs) left rest e lt =
         let first = take_at (written x) (joined written xs ++ rest) wide (sized x) in
         let whole : written x ++ (joined written xs ++ rest) ≡ left = sym (append_assoc (written x) (joined written xs) rest) ∙ e in
         (x, sym first ∙ ap (take wide) whole, omega (arith, ap length whole, length-append (written x) (joined written xs ++ rest), sized x))
-    joined_next (h ∷ had) (x ∷ xs) left rest e lt =
+    joined_behind (h ∷ had) (x ∷ xs) left rest e lt =
         let more = append_assoc (written x) (joined written xs) rest in
         let past = append_assoc (written h) (joined written had) left in
         let whole = sym (drop_at (written x) (joined written xs ++ rest) wide (sized x)) ∙ ap (drop wide) (sym more ∙ e ∙ past) ∙ drop_at (written h) (joined written had ++ left) wide (sized h) in
-        joined_next had xs left rest whole (omega arith)
+        joined_behind had xs left rest whole (omega arith)
 
     -- octets have one list of rows, if they have one row each
     pub joined_one : (plain : X → Bool) → ((x y : X) → plain x ≡ true → plain y ≡ true → written x ≡ written y → x ≡ y) → 1 ≤ wide → (xs ys : List X) → list_all plain xs ≡ true → list_all plain ys ≡ true → joined written xs ≡ joined written ys → xs ≡ ys

@@ -1,9 +1,8 @@
-ghost use Rattle.std.specs.Prelude.{◌≡◌, [], MatchOption, ◌≢◌};
+ghost use Rattle.std.specs.Prelude.{◌≡◌, []};
 ghost use Rattle.card.specs.Cards.{ReadsCard};
 ghost use Rattle.card.specs.Octets.{card, headed};
 ghost use Rattle.frame.specs.Writing.{Writes};
 ghost use Rattle.record.specs.Records.{state};
-ghost use Rattle.record.specs.declared.records.Record.{Record};
 
 use crate::listed::{put_rows, read_rows};
 use crate::neighbour_rows::NEIGHBOUR_OCTETS;
@@ -11,6 +10,7 @@ use crate::tree_rows::TREE_OCTETS;
 use field::{Address, EnergyClass, four_octets, two_octets};
 use frame::WriteFault;
 use record::{NeighbourRow, Record, RecordFault, TreeRow};
+use table::Table;
 
 const HEAD_OCTETS: usize = 10;
 
@@ -18,20 +18,21 @@ const HEAD_OCTETS: usize = 10;
 pub fn read(octets: &[u8]) -> Result<Record, RecordFault>
     ensures { ReadsCard octets.now result }
 {
-    record_of(octets).ok_or(RecordFault::Unlawful)
-}
-
-fn record_of(octets: &[u8]) -> Option<Record>
-    ensures { MatchOption result ((r : Record) → card (state r) ≢ octets.now) (λ r. card (state r) ≡ octets.now) }
-{
-    let (head, rows) = octets.split_first_chunk::<HEAD_OCTETS>()?;
-    let [a1, a0, class, number, l3, l2, l1, l0, neighbours, trees] = *head;
-    let class = EnergyClass::try_from(class).ok()?;
-    let (neighbours, left) = read_rows(neighbours, rows, NeighbourRow::FILLER)?;
-    let (trees, rest) = read_rows(trees, left, TreeRow::FILLER)?;
-    if !rest.is_empty() {
-        return None;
+    let (head, rows) = octets
+        .split_first_chunk::<HEAD_OCTETS>()
+        .ok_or(RecordFault::Unlawful)?;
+    let [a1, a0, class, number, l3, l2, l1, l0, near, far] = *head;
+    let class = EnergyClass::try_from(class)
+        .ok()
+        .ok_or(RecordFault::Unlawful)?;
+    let behind = usize::from(near) * NEIGHBOUR_OCTETS;
+    if rows.len() != behind + usize::from(far) * TREE_OCTETS {
+        return Err(RecordFault::Unlawful);
     }
+    let mut neighbours = Table::new(NeighbourRow::FILLER);
+    let left = read_rows(near, rows, &mut neighbours).ok_or(RecordFault::Unlawful)?;
+    let mut trees = Table::new(TreeRow::FILLER);
+    read_rows(far, left, &mut trees).ok_or(RecordFault::Unlawful)?;
     Record::new(
         Address(u16::from_be_bytes([a1, a0])),
         class,
@@ -40,10 +41,9 @@ fn record_of(octets: &[u8]) -> Option<Record>
         neighbours,
         trees,
     )
-    .ok()
 }
 
-// Octet by octet, as `record_of` takes them.
+// Octet by octet, as `read` takes them.
 fn head_of(held: &Record) -> [u8; HEAD_OCTETS]
     ensures { result ≡ headed (state held.now) [] }
 {

@@ -1,4 +1,4 @@
-ghost use Rattle.std.specs.Prelude.{◌≡◌, ℕ, ◌<◌, ◌≤◌, ◌^◌, Bool, true, List, length, MatchOption, ◌≢◌};
+ghost use Rattle.std.specs.Prelude.{◌≡◌, ℕ, ◌<◌, ◌≤◌, ◌^◌, Bool, true, [], List, length, MatchOption, ◌≢◌};
 ghost use Rattle.card.specs.Octets.{joined, BeginsWith};
 ghost use Rattle.card.specs.Placing.{placed};
 ghost use Rattle.std.specs.List.{list_all};
@@ -25,22 +25,22 @@ pub trait CardRow<const W: usize>: Copy {
     ghost fits: { W < 2 ^ 63 };
 }
 
-// So many rows from the front of the octets, at most N of them, and the octets behind them.
-pub fn read_rows<R: CardRow<W>, const W: usize, const N: usize>(
+// So many rows from the front of the octets into a table of none, at most N of them; answers the octets behind them.
+pub fn read_rows<'a, R: CardRow<W>, const W: usize, const N: usize>(
     count: u8,
-    octets: &[u8],
-    filler: R,
-) -> Option<(Table<R, N>, &[u8])>
-    ensures { MatchOption result ((xs : List R) (behind : _) → length xs ≤ N → BeginsWith R.CardRow.written octets.now count xs behind → ⊥) (λ p. BeginsWith R.CardRow.written octets.now count (rows p.0) p.1.now × (list_all R.CardRow.plain (rows p.0) ≡ true)) }
+    octets: &'a [u8],
+    all: &mut Table<R, N>,
+) -> Option<&'a [u8]>
+    requires { rows all.old ≡ [] }
+    ensures { MatchOption result ((xs : List R) (behind : _) → length xs ≤ N → BeginsWith R.CardRow.written octets.now count xs behind → ⊥) (λ left. BeginsWith R.CardRow.written octets.now count (rows all.new) left.now × (list_all R.CardRow.plain (rows all.new) ≡ true)) }
 {
-    let mut all = Table::new(filler);
     let mut left = octets;
     for _ in 0..count {
         let (row, rest) = left.split_first_chunk::<W>()?;
         all.push(R::read(row)?).ok()?;
         left = rest;
     }
-    Some((all, left))
+    Some(left)
 }
 
 // Fills the front of the output with the rows; the rest remains. By places, since no proof knows what is left by a write

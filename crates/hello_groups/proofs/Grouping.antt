@@ -9,6 +9,12 @@ use Rattle.hello_groups.specs.Groups.{Listable, group, groups, Grouped}
 use Rattle.hello_groups.specs.Splitting.{is_size, begins, front, after, left_over, sym_in, asym_in, all_new}
 use Rattle.field.specs.Wide.{numbers, wides, at}
 
+-- addresses take two octets each
+pub length_halved : (xs : List ℕ) → length (numbers xs) ≡ length xs / 2
+length_halved [] = refl
+length_halved (high ∷ []) = refl
+length_halved (high ∷ low ∷ rest) = omega (arith, length_halved rest)
+
 -- ---- from lists to octets
 
 module _ (code : ℕ) (a : ℕ) (more rest : List ℕ) (few : length (a ∷ more) ≤ 16) where

@@ -1,4 +1,4 @@
-ghost use Rattle.std.specs.Prelude.{◌≡◌, length};
+ghost use Rattle.std.specs.Prelude.{◌≡◌, ◌<◌, ◌^◌, length};
 ghost use Rattle.hello_groups.specs.Listed.{addresses};
 ghost use Rattle.hello_groups.specs.Splitting.{stands_in, all_new};
 ghost use Rattle.std.specs.Iterator.{YieldsFirstBy, at_most};
@@ -28,6 +28,15 @@ impl<'a> Iterator for Addresses<'a> {
 }
 
 impl Addresses<'_> {
+    // How many they are, by the octets: `count` would take one after the other.
+    #[tactic(auto, using(crate::proofs::Grouping::length_halved))]
+    pub(crate) fn len(&self) -> usize
+        ensures all { result ≡ length (addresses self.now) }
+        ensures fits { result < 2 ^ 63 }
+    {
+        self.octets.len() / 2
+    }
+
     // Whether the address is one of them.
     pub(crate) fn contains(mut self, address: Address) -> bool
         ensures { result ≡ stands_in address.0 (addresses self.entry) }

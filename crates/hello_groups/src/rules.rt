@@ -23,5 +23,5 @@ pub fn are_groups(octets: &[u8]) -> bool
 fn are_few(sym: Addresses<'_>, asym: Addresses<'_>) -> bool
     ensures { result ≡ nat_le (length (addresses sym.entry ++ addresses asym.entry)) 16 }
 {
-    sym.chain(asym).count() <= MOST_ADDRESSES
+    sym.len() + asym.len() <= MOST_ADDRESSES
 }

@@ -1,5 +1,5 @@
 -- What the symmetric neighbours weigh is bounded, since they are few.
-use Rattle.std.proofs.Common.{ℕ, ◌≤◌, get_or, filter, arith}
+use Rattle.std.proofs.Common.{ℕ, ◌*◌, ◌≤◌, List, length, get_or, filter, arith}
 use Rattle.std.proofs.lemmas.List.Sums.{sum_by-le, length-filter, count_by-le-length}
 use Rattle.field.specs.declared.classes.EnergyClass.{EnergyClass}
 use Rattle.field.specs.declared.classes.EnergyClass.TheVariants.{High, Medium, Low}
@@ -15,8 +15,12 @@ weight_few High = omega arith
 weight_few Medium = omega arith
 weight_few Low = omega arith
 
-pub around_few : (near : Table NeighbourRow 16) (t : ℕ) → weight_around (rows near) t ≤ 320
+pub around_few : (near : List NeighbourRow) (t : ℕ) → weight_around near t ≤ 20 * length near
 around_few near t =
-    let some = filter (symmetric t) (rows near) in
+    let some = filter (symmetric t) near in
     let few = sum_by-le (λ (row : NeighbourRow). weight row.class) 20 some (λ k d lt. weight_few (get_or some k d).class) in
-    omega (arith, few, length-filter (symmetric t) (rows near), count_by-le-length (symmetric t) (rows near), rows_few near)
+    omega (arith, few, length-filter (symmetric t) near, count_by-le-length (symmetric t) near)
+
+-- a table has sixteen rows at most
+pub around_table : (near : Table NeighbourRow 16) (t : ℕ) → weight_around (rows near) t ≤ 320
+around_table near t = omega (arith, around_few (rows near) t, rows_few near)

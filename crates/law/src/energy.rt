@@ -35,7 +35,7 @@ impl CostLaw for EnergyLaw {
 
     ghost order = { λ a b o m some le e. (a + m, Prim.grind (arith, nat_tests), Prim.grind (arith, nat_tests)) };
 
-    #[tactic(auto, using(crate::proofs::Weights::around_few))]
+    #[tactic(auto, using(crate::proofs::Weights::around_table))]
     fn measure(&self, listener: &Listener<'_>, _sender: Address) -> u16 {
         u16::from(listener.settings.lambda) * weight_of(listener.class)
             + u16::from(listener.settings.beta) * listener.weight_around()

@@ -100,19 +100,20 @@ impl<T: Copy, const N: usize> Table<T, N> {
         }
     }
 
-    // Keeps the rows of which the test says `true`; they move up.
+    // Keeps the rows of which the test says `true`; they move up. By places, since a copy to go over would cost as much as N rows.
     pub fn retain<F: FnMut(&T) -> bool>(&mut self, mut keep: F)
         requires { F.IsAlwaysCallable keep }
         ensures { IsFiltered (CalledAt F.FnMut) keep (rows self.old) (rows self.new) }
     {
-        let all = *self;
-        let rows = all.as_slice();
-        self.count = 0;
-        for row in rows {
-            if keep(row) {
-                self.push(*row).unwrap();
+        let mut next = 0;
+        for i in 0..self.count {
+            let row = self.items[i];
+            if keep(&row) {
+                self.items[next] = row;
+                next += 1;
             }
         }
+        self.count = next;
     }
 
     // Changes each row in its place. A closure, since no proof is found of a table that lends all its rows at once: `whole`

@@ -7,7 +7,7 @@ use Rattle.table.proofs.Every.{every_push}
 use Rattle.std.specs.List.{list_all}
 use Rattle.table.specs.Rows.{rows}
 use Rattle.card.specs.Octets.{joined}
-use Rattle.card.proofs.Joined.{joined_next}
+use Rattle.card.proofs.Joined.{joined_behind}
 use Rattle.card.proofs.listed.read_rows.Goals as goal
 
 -- a row that was let in is the last
@@ -22,14 +22,14 @@ pub returns-in_err-row : goal.returns-in_err-row
 returns-in_err-row g c =
     rw c.from_residual.ensures
     (λ xs rest few begins.
-    let next = joined_next g.R.CardRow.written g.row.W g.met.R.CardRow.sized (rows c.loop.all) xs c.loop.left.now rest (begins.0 ∙ sym c.loop.invariant.split) (omega arith) in
+    let next = joined_behind g.R.CardRow.written g.row.W g.met.R.CardRow.sized (rows c.loop.all) xs c.loop.left.now rest (begins.0 ∙ sym c.loop.invariant.split) (omega arith) in
     omega (arith, next.2, c.in_err-row.ensures.cases))
 
 pub returns-in_err-read : goal.returns-in_err-read
 returns-in_err-read g c =
     rw c.from_residual-in_err-read.ensures
     (λ xs rest few begins.
-    let next = joined_next g.R.CardRow.written g.row.W g.met.R.CardRow.sized (rows c.loop.all) xs c.loop.left.now rest (begins.0 ∙ sym c.loop.invariant.split) (omega arith) in
+    let next = joined_behind g.R.CardRow.written g.row.W g.met.R.CardRow.sized (rows c.loop.all) xs c.loop.left.now rest (begins.0 ∙ sym c.loop.invariant.split) (omega arith) in
     c.in_err-read.ensures next.0 (next.1 ∙ sym c.in_ok-row.ensures.cases.0))
 
 pub loop-preserved : goal.loop-preserved
